@@ -1,0 +1,6 @@
+pub mod Values
+pub mod Ring
+pub mod Depends
+pub mod Terms
+pub mod Document
+pub mod Truths

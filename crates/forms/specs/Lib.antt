@@ -1,0 +1,4 @@
+pub mod Form
+pub mod Words
+pub mod Document
+pub mod Area

@@ -1,0 +1,1 @@
+// Forms over up to 12 parameters as rows of 64 words, and rows in a lent area.

@@ -1,0 +1,5 @@
+pub mod Xor
+pub mod Folds
+pub mod Tabs
+pub mod Bits
+pub mod Numbers
