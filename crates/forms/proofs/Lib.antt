@@ -4,3 +4,6 @@ pub mod Depends
 pub mod Terms
 pub mod Document
 pub mod Truths
+pub mod Packing
+pub mod Scanning
+pub mod Joining

@@ -42,6 +42,10 @@ unfoldable pub putIn : (m n : ℕ) → Form m → (ℕ → Form n) → Form n
 putIn zero n f σ = constant n f
 putIn (suc m) n f σ = xor n (putIn m n (f .0) σ) (and n (σ m) (putIn m n (f .1) σ))
 
+-- a form over m parameters seen as one over n, with its own parameters put in
+unfoldable pub seen : (m n : ℕ) → Form m → Form n
+seen m n f = putIn m n f (parameter n)
+
 -- the value of f under a setting of the parameters
 unfoldable pub value : (m : ℕ) → Form m → (ℕ → Bool) → Bool
 value zero f ρ = f

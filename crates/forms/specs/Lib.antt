@@ -2,3 +2,5 @@ pub mod Form
 pub mod Words
 pub mod Document
 pub mod Area
+pub mod Rows
+pub mod Steps

@@ -9,16 +9,16 @@ use native.Mathlib.Nat.{mod-lt, mod-one, mod-eq-of-lt, two-pow-succ, zero-add, l
 use native.Mathlib.Numerals.{one-add}
 use native.Mathlib.Omega.{arith}
 use lib.Dec.{eqb, lit<}
-use lib.ListN.{length, getD}
+use lib.ListN.{length, getD, replicate, length-replicate}
 use lib.Seq.{ext-getD}
-use lib.Pow.{mod-pow-add, pow-lt}
+use lib.Pow.{mod-pow-add, pow-lt, pow-pos}
 use lib.Bits.{bitAnd, bitXor, and-le-r, xor-add-and}
 use borrow.Author.Tests.{eq-eqb, ne-eqb, eqb-true, eqb-false}
 use Rattle.ground.specs.Fold.{_⊕_}
 use Rattle.ground.specs.Bits.{bit, ofBits, bitAt, Words}
 use Rattle.ground.proofs.Xor.{⊕-comm}
 use Rattle.ground.proofs.Folds.{last-or-less}
-use Rattle.ground.proofs.Bits.{bit-xor, bit-and, bit-pow, bit-plus, bit-over}
+use Rattle.ground.proofs.Bits.{bit-xor, bit-and, bit-pow, bit-plus, bit-over, bit-zero}
 
 -- two digits with the same test
 digit-same : (x y : ℕ) → x < 2 → y < 2 → eqb x 1 ≡ eqb y 1 → x ≡ y
@@ -101,3 +101,19 @@ words-same n a b wa wb p =
     ap₂ (λ x y. bit (getD a x 0) y) (sym q) (sym r)
     ∙ p (64 * i + t) (omega (arith, wa .long))
     ∙ ap₂ (λ x y. bit (getD b x 0) y) q r))
+
+-- words of zeros
+pub zero-at : (n i : ℕ) → getD {A = ℕ} (replicate n 0) i 0 ≡ 0
+zero-at zero i = refl
+zero-at (suc n) zero = refl
+zero-at (suc n) (suc i) = zero-at n i
+
+pub zero-words : (n : ℕ) → Words n (replicate n 0)
+zero-words n = record {
+  long = length-replicate n 0;
+  small = λ i. subst (λ x. x < 2 ^ 64) (sym (zero-at n i)) (pow-pos 64);
+}
+
+pub zero-bit : (n k : ℕ) → bitAt (replicate n 0) k ≡ false
+unfolding bitAt
+zero-bit n k = ap (λ x. bit x (k % 64)) (zero-at n (k / 64)) ∙ bit-zero (k % 64)

@@ -1,0 +1,148 @@
+-- Forms and their 64 words: there and back, and over more parameters.
+-- Assumes nothing.
+use mathlib.Core.Path.{_≡_, refl, sym, ap, ap₂, _∙_, subst}
+use mathlib.Core.Bool.{Bool, true, false, not, _&&_, _||_, cond, and-false, or-true, true≢false}
+use mathlib.Core.List.{List}
+use Prim.Native.Nat.{ℕ, zero, suc, _+_, _-_, _*_, _/_, _%_, _^_, _≤_, _<_}
+use native.Mathlib.Nat.{two-pow-succ, zero-add, le-refl, le-trans}
+use native.Mathlib.Decide.{decLt, le-ind}
+use native.Mathlib.Omega.{arith}
+use lib.Dec.{eqb, ltb}
+use lib.ListN.{length, getD}
+use lib.Pow.{pow-mono, pow-pos}
+use borrow.Author.Tests.{lt-ltb, le-ltb}
+use Rattle.ground.specs.Fold.{_⊕_, tab, every}
+use Rattle.ground.specs.Bits.{bit, ofBits, bitAt, Words}
+use Rattle.ground.proofs.Xor.{⊕-false}
+use Rattle.ground.proofs.Folds.{every-all, every-at}
+use Rattle.ground.proofs.Tabs.{length-tab, getD-tab, getD-tab-out}
+use Rattle.ground.proofs.Numbers.{ofBits-lt, bit-ofBits, words-same}
+use Rattle.forms.specs.Form.{Form, constant, parameter, putIn, seen, value, has}
+use Rattle.forms.specs.Words.{bitOf, pack, ofTerms, unpack, fits}
+use Rattle.forms.proofs.Values.{pairs, value-agree, value-constant, value-parameter, value-putIn, canonical}
+use Rattle.forms.proofs.Terms.{has-low, has-high, has-false, has-ofTerms, terms-same}
+use Rattle.forms.proofs.Document.{bitOf-low, bitOf-high}
+
+-- 64 words, with the form's bits
+pub pack-words : (m : ℕ) (f : Form m) → Words 64 (pack m f)
+unfolding pack
+pack-words m f = record {
+  long = length-tab 64 word;
+  small = λ i. go i (decLt i 64);
+}
+  where
+    word : ℕ → ℕ
+    word i = ofBits 64 (λ t. bitOf m f (64 * i + t))
+
+    go : (i : ℕ) → Dec (i < 64) → getD (tab 64 (λ i. ofBits 64 (λ t. bitOf m f (64 * i + t)))) i 0 < 2 ^ 64
+    go i (yes h) = subst (λ x. x < 2 ^ 64) (sym (getD-tab 64 word i 0 h)) (ofBits-lt 64 (λ t. bitOf m f (64 * i + t)))
+    go i (no h) = subst (λ x. x < 2 ^ 64) (sym (getD-tab-out 64 word i 0 (omega arith))) (pow-pos 64)
+
+pub bit-pack : (m : ℕ) (f : Form m) (k : ℕ) → k < 4096 → bitAt (pack m f) k ≡ bitOf m f k
+unfolding pack bitAt
+bit-pack m f k h =
+    ap (λ x. bit x (k % 64)) (getD-tab 64 (λ i. ofBits 64 (λ t. bitOf m f (64 * i + t))) (k / 64) 0 (omega arith))
+    ∙ bit-ofBits 64 (λ t. bitOf m f (64 * (k / 64) + t)) (k % 64) (omega arith)
+    ∙ ap (bitOf m f) (let e : 64 * (k / 64) + k % 64 ≡ k = omega arith in e)
+
+-- 64 words with the form's bits are the form's
+pub pack-is : (m : ℕ) (f : Form m) (r : List ℕ) → Words 64 r → ((k : ℕ) → k < 4096 → bitAt r k ≡ bitOf m f k) → r ≡ pack m f
+pack-is m f r w h = words-same 64 r (pack m f) w (pack-words m f) (λ k l. h k l ∙ sym (bit-pack m f k l))
+
+-- 2 ^ m bits have room in 64 words
+pub room : (m : ℕ) → m ≤ 12 → 2 ^ m ≤ 4096
+room m h = pow-mono {i = m} {j = 12} h
+
+-- a form to words and back
+pub unpack-pack : (m : ℕ) (f : Form m) → m ≤ 12 → unpack m (pack m f) ≡ f
+unfolding unpack
+unpack-pack m f h =
+    terms-same m (unpack m (pack m f)) f
+    (λ k l.
+    let s : k < 4096 = omega (arith, room m h) in
+    has-ofTerms m (bitAt (pack m f)) 0 k l ∙ ap (bitAt (pack m f)) (zero-add k) ∙ bit-pack m f k s ∙ bitOf-low m f k l)
+
+pub pack-inj : (m : ℕ) (f g : Form m) → m ≤ 12 → pack m f ≡ pack m g → f ≡ g
+pack-inj m f g h e = sym (unpack-pack m f h) ∙ ap (unpack m) e ∙ unpack-pack m g h
+
+-- the bits of the form of words
+pub bit-unpack : (m : ℕ) (ws : List ℕ) (k : ℕ) → bitOf m (unpack m ws) k ≡ (ltb k (2 ^ m) && bitAt ws k)
+unfolding unpack
+bit-unpack m ws k = go (decLt k (2 ^ m))
+  where
+    go : Dec (k < 2 ^ m) → bitOf m (unpack m ws) k ≡ (ltb k (2 ^ m) && bitAt ws k)
+    go (yes h) =
+        bitOf-low m (unpack m ws) k h ∙ has-ofTerms m (bitAt ws) 0 k h ∙ ap (bitAt ws) (zero-add k)
+        ∙ ap (λ b. b && bitAt ws k) (sym (lt-ltb k (2 ^ m) h))
+    go (no h) =
+        let l : 2 ^ m ≤ k = omega arith in
+        bitOf-high m (unpack m ws) k l ∙ ap (λ b. b && bitAt ws k) (sym (le-ltb k (2 ^ m) l))
+
+-- words to a form and back, where no bit stands at or above 2 ^ m
+pub pack-unpack : (m : ℕ) (ws : List ℕ) → Words 64 ws → fits m ws ≡ true → ws ≡ pack m (unpack m ws)
+unfolding fits
+pack-unpack m ws w e =
+    pack-is m (unpack m ws) ws w
+    (λ k h.
+    only (ltb k (2 ^ m)) (bitAt ws k) (every-at (64 * length ws) (λ i. ltb i (2 ^ m) || not (bitAt ws i)) e k (omega (arith, w .long)))
+    ∙ sym (bit-unpack m ws k))
+  where
+    only : (a b : Bool) → (a || not b) ≡ true → b ≡ (a && b)
+    only true b q = refl
+    only false true q = absurd (true≢false (sym q))
+    only false false q = refl
+
+pub fits-pack : (m : ℕ) (f : Form m) → fits m (pack m f) ≡ true
+unfolding fits
+fits-pack m f =
+    every-all (64 * length (pack m f)) (λ i. ltb i (2 ^ m) || not (bitAt (pack m f) i))
+    (λ k h. go k (decLt k (2 ^ m)) (let l : k < 4096 = omega (arith, pack-words m f .long) in l))
+  where
+    go : (k : ℕ) → Dec (k < 2 ^ m) → k < 4096 → (ltb k (2 ^ m) || not (bitAt (pack m f) k)) ≡ true
+    go k (yes l) h = ap (λ b. b || not (bitAt (pack m f) k)) (lt-ltb k (2 ^ m) l)
+    go k (no l) h =
+        ap (λ b. ltb k (2 ^ m) || not b) (bit-pack m f k h ∙ bitOf-high m f k (omega arith)) ∙ or-true (ltb k (2 ^ m))
+
+pub value-seen : (m n : ℕ) (f : Form m) (ρ : ℕ → Bool) → m ≤ n → value n (seen m n f) ρ ≡ value m f ρ
+unfolding seen
+value-seen m n f ρ h =
+    value-putIn m n f (parameter n) ρ
+    ∙ value-agree m f (λ j. value n (parameter n j) ρ) ρ (λ j l. value-parameter n j ρ (omega arith))
+
+-- it has the same words
+seen-more : (m n : ℕ) (f : Form m) → m ≤ n → seen m (suc n) f ≡ (seen m n f, constant n false)
+unfolding value
+seen-more m n f h =
+    canonical (suc n) (seen m (suc n) f) (seen m n f, constant n false)
+    (λ ρ.
+    value-seen m (suc n) f ρ (omega arith)
+    ∙ sym (ap₂ (λ x y. x ⊕ (ρ n && y)) (value-seen m n f ρ h) (value-constant n false ρ)
+    ∙ ap (λ y. value m f ρ ⊕ y) (and-false (ρ n)) ∙ ⊕-false (value m f ρ)))
+
+bit-more : (n : ℕ) (f : Form n) (k : ℕ) → bitOf (suc n) (f, constant n false) k ≡ bitOf n f k
+bit-more n f k = go (decLt k (2 ^ n)) (decLt k (2 ^ suc n))
+  where
+    go : Dec (k < 2 ^ n) → Dec (k < 2 ^ suc n) → bitOf (suc n) (f, constant n false) k ≡ bitOf n f k
+    go (yes h) d =
+        bitOf-low (suc n) (f, constant n false) k (omega (arith, two-pow-succ n)) ∙ has-low n (f, constant n false) k h
+        ∙ sym (bitOf-low n f k h)
+    go (no h) (yes d) =
+        let e : 2 ^ n + (k - 2 ^ n) ≡ k = omega arith in
+        let l : k - 2 ^ n < 2 ^ n = omega (arith, two-pow-succ n) in
+        bitOf-low (suc n) (f, constant n false) k d
+        ∙ ap (λ x. has (suc n) (f, constant n false) (bit x)) (sym e)
+        ∙ has-high n (f, constant n false) (k - 2 ^ n) l ∙ has-false n (bit (k - 2 ^ n)) ∙ sym (bitOf-high n f k (omega arith))
+    go (no h) (no d) = bitOf-high (suc n) (f, constant n false) k (omega arith) ∙ sym (bitOf-high n f k (omega arith))
+
+seen-self : (m : ℕ) (f : Form m) → seen m m f ≡ f
+seen-self m f = canonical m (seen m m f) f (λ ρ. value-seen m m f ρ (le-refl m))
+
+pub bit-seen : (m n : ℕ) (f : Form m) (k : ℕ) → m ≤ n → bitOf n (seen m n f) k ≡ bitOf m f k
+bit-seen m n f k h = le-ind (λ x. bitOf x (seen m x f) k ≡ bitOf m f k) (ap (λ g. bitOf m g k) (seen-self m f)) more n h
+  where
+    more : (x : ℕ) → m ≤ x → bitOf x (seen m x f) k ≡ bitOf m f k → bitOf (suc x) (seen m (suc x) f) k ≡ bitOf m f k
+    more x l e = ap (λ g. bitOf (suc x) g k) (seen-more m x f l) ∙ bit-more x (seen m x f) k ∙ e
+
+pub pack-seen : (m n : ℕ) (f : Form m) → m ≤ n → pack m f ≡ pack n (seen m n f)
+pack-seen m n f h =
+    pack-is n (seen m n f) (pack m f) (pack-words m f) (λ k l. bit-pack m f k l ∙ sym (bit-seen m n f k h))
