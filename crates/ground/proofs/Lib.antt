@@ -3,3 +3,4 @@ pub mod Folds
 pub mod Tabs
 pub mod Bits
 pub mod Numbers
+pub mod ByteLaws

@@ -1,2 +1,3 @@
 pub mod Fold
 pub mod Bits
+pub mod Bytes

@@ -1,0 +1,53 @@
+// Bytes of a slice, zero past its end: one by one, as numbers with the lowest byte first, and zeros behind a prefix.
+ghost use mathlib.Core.Path.{_≡_};
+ghost use lib.ListN.{getD};
+ghost use Rattle.ground.specs.Bytes.{little, zerosFrom};
+
+// The byte at `at`.
+pub fn byte(bytes: &[u8], at: usize) -> u8
+    ensures { λ r. ⌜ r ≡ getD (now (bytes .entry)) at 0 ⌝ }
+{
+    if at < bytes.len() { bytes[at] } else { 0 }
+}
+
+// The number of the two bytes from `at` on.
+pub fn two(bytes: &[u8], at: usize) -> u32
+    ensures { λ r. ⌜ r ≡ little (now (bytes .entry)) at 2 ⌝ }
+{
+    if bytes.len() <= at {
+        return 0;
+    }
+    let low = byte(bytes, at) as u32;
+    let high = byte(bytes, at + 1) as u32;
+    low + 256 * high
+}
+
+// The number of the four bytes from `at` on.
+pub fn four(bytes: &[u8], at: usize) -> u32
+    ensures { λ r. ⌜ r ≡ little (now (bytes .entry)) at 4 ⌝ }
+{
+    if bytes.len() <= at {
+        return 0;
+    }
+    let low = two(bytes, at);
+    let high = two(bytes, at + 2);
+    low + 65536 * high
+}
+
+// Whether every byte from `from` on is zero.
+pub fn zeros_from(bytes: &[u8], from: usize) -> bool
+    ensures { λ r. ⌜ r ≡ zerosFrom (now (bytes .entry)) from ⌝ }
+{
+    if bytes.len() <= from {
+        return true;
+    }
+    let last = bytes.len() - 1;
+    let mut i = from;
+    while i <= last {
+        if bytes[i] != 0 {
+            return false;
+        }
+        i += 1;
+    }
+    true
+}
