@@ -7,3 +7,4 @@ pub mod Truths
 pub mod Packing
 pub mod Scanning
 pub mod Joining
+pub mod Passing

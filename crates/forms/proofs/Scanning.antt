@@ -7,18 +7,17 @@ use Prim.Native.Nat.{ℕ, _+_, _-_, _*_, _/_, _%_, _^_, _≤_, _<_}
 use native.Mathlib.Decide.{decLt}
 use native.Mathlib.Omega.{arith}
 use lib.ListN.{getD}
-use borrow.Author.Tests.{eq-eqb, ne-eqb}
 use Rattle.ground.specs.Bits.{bit, bitAt}
-use Rattle.ground.proofs.Bits.{bit-shr, bit-zero}
+use Rattle.ground.proofs.Bits.{bit-true, bit-false, bit-shr, bit-zero}
 
 -- what the code's test of bit k says
 pub bit-here : (row : List ℕ) (k : ℕ) → getD row (k / 64) 0 / 2 ^ (k % 64) % 2 ≡ 1 → bitAt row k ≡ true
-unfolding bitAt bit
-bit-here row k h = eq-eqb (getD row (k / 64) 0 / 2 ^ (k % 64) % 2) 1 h
+unfolding bitAt
+bit-here row k h = bit-true (getD row (k / 64) 0) (k % 64) h
 
 pub bit-absent : (row : List ℕ) (k : ℕ) → (getD row (k / 64) 0 / 2 ^ (k % 64) % 2 ≡ 1 → ⊥) → bitAt row k ≡ false
-unfolding bitAt bit
-bit-absent row k h = ne-eqb (getD row (k / 64) 0 / 2 ^ (k % 64) % 2) 1 h
+unfolding bitAt
+bit-absent row k h = bit-false (getD row (k / 64) 0) (k % 64) h
 
 -- nothing is left of the word from bit k on
 pub word-absent : (row : List ℕ) (k i : ℕ) → getD row (k / 64) 0 / 2 ^ (k % 64) ≡ 0 → k ≤ i → i < (k / 64 + 1) * 64

@@ -1,12 +1,15 @@
 -- What the functions inside the crate say. Nobody outside has to believe it.
 use mathlib.Core.Path.{_≡_}
 use mathlib.Core.Bool.{Bool, true, false, _&&_}
-use mathlib.Core.List.{List}
-use Prim.Native.Nat.{ℕ, _≤_, _<_}
+use mathlib.Core.List.{List, [], _∷_}
+use Prim.Native.Nat.{ℕ, _+_, _-_, _*_, _^_, _≤_, _<_}
 use lib.Bits.{bitOr}
 use lib.Dec.{eqb}
 use Rattle.ground.specs.Fold.{_⊕_, parity}
-use Rattle.ground.specs.Bits.{bitAt, Words}
+use Rattle.ground.specs.Bits.{bit, bitAt, Words}
+use Rattle.forms.specs.Form.{Form, truth}
+use Rattle.forms.specs.Words.{most, pack}
+use Rattle.forms.specs.Area.{rowAt}
 
 -- r is the first term of the row from `from` on and before `to`, or `to` where there is none
 pub record Next (row : List ℕ) (from to r : ℕ) : Type 0 where
@@ -19,3 +22,26 @@ pub record Next (row : List ℕ) (from to r : ℕ) : Type 0 where
 pub record Joined (old b : List ℕ) (i : ℕ) (r : List ℕ) : Type 0 where
   pub words : Words 64 r
   pub bits : (l : ℕ) → l < 4096 → bitAt r l ≡ bitAt old l ⊕ parity 4096 (λ j. bitAt b j && eqb (bitOr i j) l)
+
+-- masks of the bits of a word whose number lacks parameter p, for the six parameters inside a word
+abbrev pub masks : List ℕ
+masks =
+    0x5555_5555_5555_5555 ∷ 0x3333_3333_3333_3333 ∷ 0x0F0F_0F0F_0F0F_0F0F ∷ 0x00FF_00FF_00FF_00FF ∷ 0x0000_FFFF_0000_FFFF
+    ∷ 0x0000_0000_FFFF_FFFF ∷ []
+
+-- bit k after the pass of parameter p: with the parameter it takes on the bit without it
+unfoldable pub passedBit : List ℕ → ℕ → ℕ → Bool
+passedBit row p k = bitAt row k ⊕ (bit k p && bitAt row (k - 2 ^ p))
+
+-- r is word i of the row after the pass
+abbrev pub PassedWord : List ℕ → ℕ → ℕ → ℕ → Type 0
+PassedWord row p i r = (t : ℕ) → t < 64 → bit r t ≡ passedBit row p (64 * i + t)
+
+-- r is the row after the pass
+pub record Passed (row : List ℕ) (p : ℕ) (r : List ℕ) : Type 0 where
+  pub words : Words 64 r
+  pub bits : (k : ℕ) → k < 4096 → bitAt r k ≡ passedBit row p k
+
+-- the first count rows of ts are the truth values of σ's forms
+abbrev pub Tables : List ℕ → ℕ → (ℕ → Form most) → Type 0
+Tables ts count σ = (j : ℕ) → j < count → rowAt ts j ≡ pack most (truth most (σ j))

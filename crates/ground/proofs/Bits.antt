@@ -1,14 +1,15 @@
 -- The bits of what `^ & | << >>`, `%` and sums make of numbers.
 -- Assumes nothing.
 use mathlib.Core.Path.{_≡_, refl, sym, ap, ap₂, _∙_, subst}
-use mathlib.Core.Bool.{Bool, true, false, not, _&&_, _||_}
+use mathlib.Core.Bool.{Bool, true, false, not, _&&_, _||_, true≢false}
 use Prim.Native.Nat.{ℕ, zero, suc, _+_, _-_, _*_, _/_, _%_, _^_, _≤_, _<_, min, max}
 use native.Mathlib.Nat.{mod-lt, div-eq-of-lt, div-one, pow-suc, mul-mod-left, mul-div-mul-right, one-mul, mod-eq-of-lt, lt-of-lt-of-le}
+use native.Mathlib.Decide.{decLt}
 use native.Mathlib.Omega.{arith}
 use lib.Dec.{T, eqb, leb, lit<, eqb·zero-suc, eqb·suc-zero, eqb·suc-suc}
 use lib.Pow.{pow-pos, pow-lt, pow-mono, pow-add, shr-shr, shl-shr, field, mod-mod-pow, shl-exact}
 use lib.Bits.{bitAnd, bitOr, bitXor, differ, and-shr, or-shr, xor-shr, and-step, or-step, xor-step, xor-shifted}
-use borrow.Author.Tests.{le-leb, lt-leb}
+use borrow.Author.Tests.{le-leb, lt-leb, eq-eqb, ne-eqb}
 use Rattle.ground.specs.Fold.{_⊕_}
 use Rattle.ground.specs.Bits.{bit}
 
@@ -49,6 +50,15 @@ pub bit-or : (a b t : ℕ) → bit (bitOr a b) t ≡ (bit a t || bit b t)
 bit-or = bit-op bitOr max _||_ or-shr or-step
     (two-digits (λ x y. (max x y < 2) × (eqb (max x y) 1 ≡ (eqb x 1 || eqb y 1))) (lit< tt, refl) (lit< tt, refl) (lit< tt, refl) (lit< tt, refl))
 
+-- the code's test of a bit
+pub bit-true : (x t : ℕ) → x / 2 ^ t % 2 ≡ 1 → bit x t ≡ true
+unfolding bit
+bit-true x t h = eq-eqb (x / 2 ^ t % 2) 1 h
+
+pub bit-false : (x t : ℕ) → (x / 2 ^ t % 2 ≡ 1 → ⊥) → bit x t ≡ false
+unfolding bit
+bit-false x t h = ne-eqb (x / 2 ^ t % 2) 1 h
+
 -- a number has no bit at or above its bound
 pub bit-over : (x t : ℕ) → x < 2 ^ t → bit x t ≡ false
 unfolding bit
@@ -71,6 +81,27 @@ bit-low x n t h =
     let e : n - suc t + 1 + t ≡ n = omega arith in
     ap (λ y. eqb y 1)
     (ap (λ k. x % 2 ^ k / 2 ^ t % 2) (sym e) ∙ ap (λ y. y % 2) (field x (n - suc t + 1) t) ∙ mod-mod-pow (x / 2 ^ t) (n - suc t) 1)
+
+-- what is shifted up by s has the bits from s on
+pub bit-shl : (x s t : ℕ) → bit (x * 2 ^ s) t ≡ (leb s t && bit x (t - s))
+bit-shl x s t = go (decLt t s)
+  where
+    go : Dec (t < s) → bit (x * 2 ^ s) t ≡ (leb s t && bit x (t - s))
+    go (yes h) =
+        sym (bit-low (x * 2 ^ s) s t h) ∙ ap (λ y. bit y t) (mul-mod-left x (2 ^ s)) ∙ bit-zero t
+        ∙ sym (ap (λ b. b && bit x (t - s)) (lt-leb s t h))
+    go (no h) =
+        let e : s + (t - s) ≡ t = omega arith in
+        ap (bit (x * 2 ^ s)) (sym e) ∙ sym (bit-shr (x * 2 ^ s) s (t - s)) ∙ ap (λ y. bit y (t - s)) (shl-shr x s)
+        ∙ sym (ap (λ b. b && bit x (t - s)) (le-leb s t (omega arith)))
+
+-- a number with bit t is 2 ^ t or more
+pub bit-le : (x t : ℕ) → bit x t ≡ true → 2 ^ t ≤ x
+bit-le x t e = go (decLt x (2 ^ t))
+  where
+    go : Dec (x < 2 ^ t) → 2 ^ t ≤ x
+    go (yes h) = absurd (true≢false (sym e ∙ bit-over x t h))
+    go (no h) = omega arith
 
 pub bit-pow : (s t : ℕ) → bit (2 ^ s) t ≡ eqb s t
 unfolding bit

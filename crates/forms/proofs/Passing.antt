@@ -1,0 +1,149 @@
+-- The pass of a parameter, on the words of a row and on its bits.
+-- Assumes nothing.
+use mathlib.Core.Path.{_≡_, refl, sym, ap, ap₂, _∙_, subst}
+use mathlib.Core.Bool.{Bool, true, false, _&&_, Bool·beq, and-assoc, and-comm, true≢false, false≢true}
+use mathlib.Core.Logic.{_≢_}
+use mathlib.Core.List.{List}
+use Prim.Native.Nat.{ℕ, suc, _+_, _-_, _*_, _/_, _%_, _^_, _≤_, _<_}
+use native.Mathlib.Nat.{lt-of-lt-of-le}
+use native.Mathlib.Decide.{decLt}
+use native.Mathlib.Omega.{arith}
+use lib.ListN.{length, getD, List·getD-eq-default}
+use lib.Bits.{bitXor, bitAnd}
+use lib.Dec.{eqb, leb}
+use lib.Pow.{pow-add, pow-pos, pow-lt, pow-mono}
+use borrow.Author.Tests.{eq-eqb, ne-eqb}
+use Rattle.ground.specs.Fold.{_⊕_, fold, every}
+use Rattle.ground.specs.Bits.{bit, bitAt, Words}
+use Rattle.ground.proofs.Xor.{⊕-false}
+use Rattle.ground.proofs.Folds.{every-at}
+use Rattle.ground.proofs.Bits.{bit-xor, bit-and, bit-shr, bit-shl, bit-low, bit-le, bit-true, bit-false, one-shl}
+use Rattle.ground.proofs.Numbers.{bit-minus}
+use Rattle.forms.specs.Form.{Form, has, truth}
+use Rattle.forms.specs.Words.{bitOf, pack}
+use Rattle.forms.specs.Steps.{masks, passedBit, PassedWord, Passed}
+use Rattle.forms.proofs.Terms.{has-agree}
+use Rattle.forms.proofs.Document.{bitOf-low}
+use Rattle.forms.proofs.Truths.{pass, has-pass}
+use Rattle.forms.proofs.Packing.{bit-pack, pack-is}
+
+-- the masks' rule, computed at each parameter and each bit
+mask-right : ℕ → ℕ → Bool
+mask-right p t = Bool·beq (leb (2 ^ p) t && bit (getD masks p 0) (t - 2 ^ p)) (bit t p)
+
+masks-right : every 6 (λ p. every 64 (mask-right p)) ≡ true
+unfolding fold mask-right bit
+masks-right = refl
+
+beq-same : (a b : Bool) → Bool·beq a b ≡ true → a ≡ b
+beq-same true true e = refl
+beq-same true false e = absurd (false≢true e)
+beq-same false true e = absurd (false≢true e)
+beq-same false false e = refl
+
+mask-bit : (p t : ℕ) → p < 6 → t < 64 → (leb (2 ^ p) t && bit (getD masks p 0) (t - 2 ^ p)) ≡ bit t p
+unfolding mask-right
+mask-bit p t h k = beq-same _ _ (every-at 64 (mask-right p) (every-at 6 (λ p. every 64 (mask-right p)) masks-right p h) t k)
+
+-- place t of word i
+bitAt-word : (row : List ℕ) (i t : ℕ) → t < 64 → bitAt row (64 * i + t) ≡ bit (getD row i 0) t
+unfolding bitAt
+bitAt-word row i t h =
+    ap₂ (λ x y. bit (getD row x 0) y) (let e : (64 * i + t) / 64 ≡ i = omega arith in e) (let e : (64 * i + t) % 64 ≡ t = omega arith in e)
+
+-- what is added where a bit is set may be named by it
+guarded : (a x y : Bool) → (a ≡ true → x ≡ y) → (a && x) ≡ (a && y)
+guarded true x y h = h refl
+guarded false x y h = refl
+
+-- parameters inside a word
+pub pass-inside : (row : List ℕ) (p i : ℕ) → p < 6
+    → PassedWord row p i (bitXor (getD row i 0) ((bitAnd (getD row i 0) (getD masks p 0) * 2 ^ ((1 * 2 ^ p) % 2 ^ 64)) % 2 ^ 64))
+unfolding passedBit
+pass-inside row p i h t k =
+    let w : ℕ = getD row i 0 in
+    let s : ℕ = 2 ^ p in
+    let y : ℕ = bitAnd w (getD masks p 0) in
+    bit-xor w ((y * 2 ^ ((1 * 2 ^ p) % 2 ^ 64)) % 2 ^ 64) t
+    ∙ ap₂ _⊕_ (sym (bitAt-word row i t k))
+    (ap (λ x. bit ((y * 2 ^ x) % 2 ^ 64) t) (one-shl p (omega arith))
+    ∙ bit-low (y * 2 ^ s) 64 t k ∙ bit-shl y s t
+    ∙ ap (λ b. leb s t && b) (bit-and w (getD masks p 0) (t - s))
+    ∙ turn (leb s t) (bit w (t - s)) (bit (getD masks p 0) (t - s))
+    ∙ ap (λ b. b && bit w (t - s)) (mask-bit p t h k ∙ low)
+    ∙ guarded (bit (64 * i + t) p) (bit w (t - s)) (bitAt row (64 * i + t - s))
+    (λ e.
+    let l : s ≤ t = bit-le t p (low ∙ e) in
+    sym (ap (bitAt row) (let q : 64 * i + t - s ≡ 64 * i + (t - s) = omega arith in q) ∙ bitAt-word row i (t - s) (omega arith))))
+  where
+    turn : (a b c : Bool) → (a && (b && c)) ≡ (a && c && b)
+    turn a b c = ap (λ x. a && x) (and-comm b c) ∙ sym (and-assoc a c b)
+
+    low : bit t p ≡ bit (64 * i + t) p
+    low = ap (λ x. bit x p) (let e : t ≡ (64 * i + t) % 64 = omega arith in e) ∙ bit-low (64 * i + t) 6 p h
+
+-- parameters across words
+across-bit : (i t p : ℕ) → 6 ≤ p → t < 64 → bit (64 * i + t) p ≡ bit i (p - 6)
+across-bit i t p h k =
+    ap (bit (64 * i + t)) (let e : p ≡ 6 + (p - 6) = omega arith in e) ∙ sym (bit-shr (64 * i + t) 6 (p - 6))
+    ∙ ap (λ x. bit x (p - 6)) (let e : (64 * i + t) / 64 ≡ i = omega arith in e)
+
+pub pass-across : (row : List ℕ) (p i : ℕ) → 6 ≤ p → i / 2 ^ (p - 6) % 2 ≡ 1
+    → PassedWord row p i (bitXor (getD row i 0) (getD row (i - 2 ^ (p - 6)) 0))
+unfolding passedBit
+pass-across row p i h e t k =
+    let by : ℕ = 2 ^ (p - 6) in
+    let set : bit i (p - 6) ≡ true = bit-true i (p - 6) e in
+    let l : by ≤ i = bit-le i (p - 6) set in
+    let whole : 2 ^ p ≡ 64 * by = ap (λ x. 2 ^ x) (let q : p ≡ 6 + (p - 6) = omega arith in q) ∙ pow-add 2 6 (p - 6) in
+    bit-xor (getD row i 0) (getD row (i - by) 0) t
+    ∙ ap₂ _⊕_ (sym (bitAt-word row i t k))
+    (sym (ap₂ _&&_ (across-bit i t p h k ∙ set)
+    (ap (bitAt row) (let q : 64 * i + t - 2 ^ p ≡ 64 * (i - by) + t = omega (arith, whole, l) in q) ∙ bitAt-word row (i - by) t k)))
+
+pub pass-kept : (row : List ℕ) (p i : ℕ) → 6 ≤ p → (i / 2 ^ (p - 6) % 2 ≡ 1 → ⊥) → PassedWord row p i (getD row i 0)
+unfolding passedBit
+pass-kept row p i h e t k =
+    sym (ap₂ (λ x b. x ⊕ (b && bitAt row (64 * i + t - 2 ^ p))) (bitAt-word row i t k) (across-bit i t p h k ∙ bit-false i (p - 6) e)
+    ∙ ⊕-false (bit (getD row i 0) t))
+
+-- word by word, the row
+pub passed-row : (row r : List ℕ) (p : ℕ) → length r ≡ 64 → ((i : ℕ) → i < 64 → (getD r i 0 < 2 ^ 64) × PassedWord row p i (getD r i 0))
+    → Passed row p r
+passed-row row r p l h = record {
+  words = record { long = l; small = λ i. small i (decLt i 64) };
+  bits = λ k n.
+      bits-of k n
+      ∙ h (k / 64) (omega arith) .1 (k % 64) (omega arith)
+      ∙ ap (passedBit row p) (let e : 64 * (k / 64) + k % 64 ≡ k = omega arith in e);
+}
+  where
+    small : (i : ℕ) → Dec (i < 64) → getD r i 0 < 2 ^ 64
+    small i (yes n) = h i n .0
+    small i (no n) = subst (λ x. x < 2 ^ 64) (sym (List·getD-eq-default r 0 (let e : length r ≤ i = omega arith in e))) (pow-pos 64)
+
+    bits-of : (k : ℕ) → k < 4096 → bitAt r k ≡ bit (getD r (k / 64) 0) (k % 64)
+    bits-of k n =
+        ap (bitAt r) (let e : k ≡ 64 * (k / 64) + k % 64 = omega arith in e) ∙ bitAt-word r (k / 64) (k % 64) (omega arith)
+
+-- a pass on a row is the pass on its form, where the form has all 4096 bits
+pub passed-form : (m : ℕ) (f : Form m) (row r : List ℕ) (p : ℕ) → 4096 ≤ 2 ^ m → p < m → row ≡ pack m f → Passed row p r
+    → r ≡ pack m (pass m p f)
+unfolding passedBit
+passed-form m f row r p wide h e made =
+    pack-is m (pass m p f) r (made .words)
+    (λ k l. made .bits k l ∙ ap₂ _⊕_ (term k l) (guarded (bit k p) _ _ (λ s. term (k - 2 ^ p) (omega arith))) ∙ go k (bit k p) refl ∙ sym (bitOf-low m (pass m p f) k (omega arith)))
+  where
+    term : (k : ℕ) → k < 4096 → bitAt row k ≡ has m f (bit k)
+    term k l = ap (λ x. bitAt x k) e ∙ bit-pack m f k l ∙ bitOf-low m f k (omega arith)
+
+    go : (k : ℕ) (b : Bool) → bit k p ≡ b
+        → has m f (bit k) ⊕ (bit k p && has m f (bit (k - 2 ^ p))) ≡ has m (pass m p f) (bit k)
+    go k true s =
+        sym (has-pass m p f (bit k) (bit (k - 2 ^ p)) h
+        (λ j n. bit-minus k p j s ∙ ap (λ b. b ⊕ bit k j) (ne-eqb p j (λ q. n (sym q))))
+        (bit-minus k p p s ∙ ap₂ _⊕_ (eq-eqb p p refl) s))
+    go k false s =
+        ap (λ b. has m f (bit k) ⊕ (b && has m f (bit (k - 2 ^ p)))) s
+        ∙ sym (ap (λ b. has m f (bit k) ⊕ (b && has m f (bit k))) s)
+        ∙ sym (has-pass m p f (bit k) (bit k) h (λ j n. refl) s)
