@@ -4,3 +4,4 @@ pub mod Depends
 pub mod Terms
 pub mod Document
 pub mod Truths
+pub mod Areas
