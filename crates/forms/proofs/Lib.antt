@@ -8,3 +8,4 @@ pub mod Packing
 pub mod Scanning
 pub mod Joining
 pub mod Passing
+pub mod Areas

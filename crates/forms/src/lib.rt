@@ -1,4 +1,5 @@
 // Forms over up to 12 parameters as rows of 64 words, and rows in a lent area.
+pub mod area;
 mod join;
 mod scan;
 
