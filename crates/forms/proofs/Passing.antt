@@ -5,10 +5,13 @@ use mathlib.Core.Bool.{Bool, true, false, _&&_, Bool·beq, and-assoc, and-comm, 
 use mathlib.Core.Logic.{_≢_}
 use mathlib.Core.List.{List}
 use Prim.Native.Nat.{ℕ, suc, _+_, _-_, _*_, _/_, _%_, _^_, _≤_, _<_}
-use native.Mathlib.Nat.{lt-of-lt-of-le}
+use native.Mathlib.Nat.{div-eq-of-lt, le-refl}
+use native.Mathlib.Numerals.{add-one}
 use native.Mathlib.Decide.{decLt}
 use native.Mathlib.Omega.{arith}
-use lib.ListN.{length, getD, List·getD-eq-default}
+use lib.ListN.{length, getD, set, List·getD-eq-default}
+use lib.Seq.{getD-set-same, getD-set-other}
+use borrow.Author.Count.{below-more}
 use lib.Bits.{bitXor, bitAnd}
 use lib.Dec.{eqb, leb}
 use lib.Pow.{pow-add, pow-pos, pow-lt, pow-mono}
@@ -20,11 +23,11 @@ use Rattle.ground.proofs.Folds.{every-at}
 use Rattle.ground.proofs.Bits.{bit-xor, bit-and, bit-shr, bit-shl, bit-low, bit-le, bit-true, bit-false, one-shl}
 use Rattle.ground.proofs.Numbers.{bit-minus}
 use Rattle.forms.specs.Form.{Form, has, truth}
-use Rattle.forms.specs.Words.{bitOf, pack}
+use Rattle.forms.specs.Words.{most, bitOf, pack}
 use Rattle.forms.specs.Steps.{masks, passedBit, PassedWord, Passed}
 use Rattle.forms.proofs.Terms.{has-agree}
 use Rattle.forms.proofs.Document.{bitOf-low}
-use Rattle.forms.proofs.Truths.{pass, has-pass}
+use Rattle.forms.proofs.Truths.{pass, passes, has-pass, passes-truth}
 use Rattle.forms.proofs.Packing.{bit-pack, pack-is}
 
 -- the masks' rule, computed at each parameter and each bit
@@ -82,29 +85,45 @@ pass-inside row p i h t k =
     low : bit t p ≡ bit (64 * i + t) p
     low = ap (λ x. bit x p) (let e : t ≡ (64 * i + t) % 64 = omega arith in e) ∙ bit-low (64 * i + t) 6 p h
 
+-- the code's steps: 1 << p
+pub step-in : (p : ℕ) → p < 6 → (1 * 2 ^ p) % 2 ^ 64 < 64
+step-in p h = subst (λ x. x < 64) (sym (one-shl p (omega arith))) (pow-lt {i = p} {j = 6} h)
+
+pub step-pos : (p : ℕ) → p < 64 → 0 < (1 * 2 ^ p) % 2 ^ 64
+step-pos p h = subst (λ x. 0 < x) (sym (one-shl p h)) (pow-pos p)
+
+-- where a quotient is odd, the divisor is no more than the number
+pub odd-le : (i by : ℕ) → i / by % 2 ≡ 1 → by ≤ i
+odd-le i by e = go (decLt i by)
+  where
+    go : Dec (i < by) → by ≤ i
+    go (yes l) = let z : i / by ≡ 0 = div-eq-of-lt l in let y : ⊥ = omega arith in absurd y
+    go (no l) = omega arith
+
 -- parameters across words
 across-bit : (i t p : ℕ) → 6 ≤ p → t < 64 → bit (64 * i + t) p ≡ bit i (p - 6)
 across-bit i t p h k =
     ap (bit (64 * i + t)) (let e : p ≡ 6 + (p - 6) = omega arith in e) ∙ sym (bit-shr (64 * i + t) 6 (p - 6))
     ∙ ap (λ x. bit x (p - 6)) (let e : (64 * i + t) / 64 ≡ i = omega arith in e)
 
-pub pass-across : (row : List ℕ) (p i : ℕ) → 6 ≤ p → i / 2 ^ (p - 6) % 2 ≡ 1
-    → PassedWord row p i (bitXor (getD row i 0) (getD row (i - 2 ^ (p - 6)) 0))
+pub pass-across : (row : List ℕ) (p i by : ℕ) → 6 ≤ p → by ≡ 2 ^ (p - 6) → i / by % 2 ≡ 1
+    → PassedWord row p i (bitXor (getD row i 0) (getD row (i - by) 0))
 unfolding passedBit
-pass-across row p i h e t k =
-    let by : ℕ = 2 ^ (p - 6) in
-    let set : bit i (p - 6) ≡ true = bit-true i (p - 6) e in
-    let l : by ≤ i = bit-le i (p - 6) set in
-    let whole : 2 ^ p ≡ 64 * by = ap (λ x. 2 ^ x) (let q : p ≡ 6 + (p - 6) = omega arith in q) ∙ pow-add 2 6 (p - 6) in
+pass-across row p i by h step e t k =
+    let set : bit i (p - 6) ≡ true = bit-true i (p - 6) (ap (λ x. i / x % 2) (sym step) ∙ e) in
+    let l : by ≤ i = odd-le i by e in
+    let whole : 2 ^ p ≡ 64 * by
+    = ap (λ x. 2 ^ x) (let q : p ≡ 6 + (p - 6) = omega arith in q) ∙ pow-add 2 6 (p - 6) ∙ ap (λ x. 64 * x) (sym step) in
     bit-xor (getD row i 0) (getD row (i - by) 0) t
     ∙ ap₂ _⊕_ (sym (bitAt-word row i t k))
     (sym (ap₂ _&&_ (across-bit i t p h k ∙ set)
     (ap (bitAt row) (let q : 64 * i + t - 2 ^ p ≡ 64 * (i - by) + t = omega (arith, whole, l) in q) ∙ bitAt-word row (i - by) t k)))
 
-pub pass-kept : (row : List ℕ) (p i : ℕ) → 6 ≤ p → (i / 2 ^ (p - 6) % 2 ≡ 1 → ⊥) → PassedWord row p i (getD row i 0)
+pub pass-kept : (row : List ℕ) (p i by : ℕ) → 6 ≤ p → by ≡ 2 ^ (p - 6) → (i / by % 2 ≡ 1 → ⊥) → PassedWord row p i (getD row i 0)
 unfolding passedBit
-pass-kept row p i h e t k =
-    sym (ap₂ (λ x b. x ⊕ (b && bitAt row (64 * i + t - 2 ^ p))) (bitAt-word row i t k) (across-bit i t p h k ∙ bit-false i (p - 6) e)
+pass-kept row p i by h step e t k =
+    sym (ap₂ (λ x b. x ⊕ (b && bitAt row (64 * i + t - 2 ^ p))) (bitAt-word row i t k)
+    (across-bit i t p h k ∙ bit-false i (p - 6) (λ q. e (ap (λ x. i / x % 2) step ∙ q)))
     ∙ ⊕-false (bit (getD row i 0) t))
 
 -- word by word, the row
@@ -147,3 +166,34 @@ passed-form m f row r p wide h e made =
         ap (λ b. has m f (bit k) ⊕ (b && has m f (bit (k - 2 ^ p)))) s
         ∙ sym (ap (λ b. has m f (bit k) ⊕ (b && has m f (bit k))) s)
         ∙ sym (has-pass m p f (bit k) (bit k) h (λ j n. refl) s)
+
+-- one word more
+pub passed-more : (row r : List ℕ) (p i x : ℕ) → length r ≡ 64 → i < 64 → x < 2 ^ 64 → PassedWord row p i x
+    → ((j : ℕ) → j < i → (getD r j 0 < 2 ^ 64) × PassedWord row p j (getD r j 0))
+    → (j : ℕ) → j < i + 1 → (getD (set r i x) j 0 < 2 ^ 64) × PassedWord row p j (getD (set r i x) j 0)
+passed-more row r p i x e h small made sofar =
+    below-more (λ j. (getD (set r i x) j 0 < 2 ^ 64) × PassedWord row p j (getD (set r i x) j 0)) i
+    (λ j l.
+    subst (λ y. (y < 2 ^ 64) × PassedWord row p j y)
+    (sym (getD-set-other r i j x 0 (λ e. let z : ⊥ = omega arith in z))) (sofar j l))
+    (subst (λ y. (y < 2 ^ 64) × PassedWord row p i y) (sym (getD-set-same r i x 0 (omega arith))) (small, made))
+
+-- 64 words have room for 12 parameters
+pub most-is : most ≡ 12
+unfolding most
+most-is = refl
+
+pub most-wide : 4096 ≤ 2 ^ most
+most-wide = subst (λ m. 4096 ≤ 2 ^ m) (sym most-is) (le-refl 4096)
+
+-- one pass more, at all 4096 bits
+pub truth-more : (f : Form most) (row r : List ℕ) (p : ℕ) → p < 12 → row ≡ pack most (passes most p f) → Passed row p r
+    → r ≡ pack most (passes most (p + 1) f)
+unfolding passes
+truth-more f row r p h e made =
+    passed-form most (passes most p f) row r p most-wide (subst (λ m. p < m) (sym most-is) h) e made
+    ∙ ap (λ k. pack most (passes most k f)) (sym (add-one p))
+
+pub truth-done : (f : Form most) (r : List ℕ) (p : ℕ) → p ≤ 12 → 12 ≤ p → r ≡ pack most (passes most p f) → r ≡ pack most (truth most f)
+truth-done f r p h l e =
+    e ∙ ap (pack most) (ap (λ k. passes most k f) (let q : p ≡ 12 = omega arith in q ∙ sym most-is) ∙ passes-truth most f)

@@ -2,6 +2,7 @@
 pub mod area;
 mod join;
 mod scan;
+mod table;
 
 use join::join_term;
 use scan::next_term;

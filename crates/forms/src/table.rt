@@ -1,0 +1,61 @@
+// The truth values of a row, and putting rows in by them.
+use crate::scan::next_term;
+ghost use mathlib.Core.Path.{_≡_};
+ghost use mathlib.Core.List.{List};
+ghost use Prim.Native.Nat.{ℕ, _+_, _*_, _^_, _≤_, _<_};
+ghost use Rattle.ground.specs.Bits.{bitAt};
+ghost use Rattle.forms.specs.Form.{Form, truth, xor, each, putIn};
+ghost use Rattle.forms.specs.Words.{most, pack, ofTerms};
+ghost use Rattle.forms.specs.Area.{rowAt, formIn, Holds};
+ghost use Rattle.forms.specs.Steps.{PassedWord, Passed, Tables};
+
+// The bits of a word whose number lacks parameter p.
+const MASKS: [u64; 6] = [
+    0x5555_5555_5555_5555,
+    0x3333_3333_3333_3333,
+    0x0F0F_0F0F_0F0F_0F0F,
+    0x00FF_00FF_00FF_00FF,
+    0x0000_FFFF_0000_FFFF,
+    0x0000_0000_FFFF_FFFF,
+];
+
+// Word i of the row after the pass of parameter p.
+fn pass_word(row: &[u64; 64], p: usize, i: usize) -> u64
+    requires { ⌜ (p < 12) × (i < 64) ⌝ }
+    ensures { λ r. ⌜ PassedWord (now (row .entry)) p i r ⌝ }
+{
+    let w = row[i];
+    if p < 6 {
+        let by: usize = 1 << p;
+        return w ^ ((w & MASKS[p]) << by);
+    }
+    let by: usize = 1 << (p - 6);
+    if i / by % 2 == 1 {
+        return w ^ row[i - by];
+    }
+    w
+}
+
+// The row after the pass of parameter p.
+fn pass(row: [u64; 64], p: usize) -> [u64; 64]
+    requires { ⌜ p < 12 ⌝ }
+    ensures { λ r. ⌜ Passed row p r ⌝ }
+{
+    let mut r = [0u64; 64];
+    for i in 0..64 {
+        r[i] = pass_word(&row, p, i);
+    }
+    r
+}
+
+// The truth values of the row's form: bit s is its value where exactly the parameters of s are true.
+pub(crate) fn truth_of(row: [u64; 64]) -> [u64; 64]
+    ensures { λ r. ⌜ ((f : Form most) → row ≡ pack most f → r ≡ pack most (truth most f)) ⌝ }
+{
+    let mut r = row;
+    for p in 0..12 {
+        let s = pass(r, p);
+        r = s;
+    }
+    r
+}
