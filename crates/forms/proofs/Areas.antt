@@ -146,7 +146,7 @@ unfolding rowAt
 length-rowAt ws place = length-tab 64 _
 
 -- word i of a row
-row-at : (ws : List ℕ) (place i : ℕ) → i < 64 → getD (rowAt ws place) i 0 ≡ getD ws (64 * place + i) 0
+pub row-at : (ws : List ℕ) (place i : ℕ) → i < 64 → getD (rowAt ws place) i 0 ≡ getD ws (64 * place + i) 0
 unfolding rowAt
 row-at ws place i h = getD-tab 64 _ i 0 h
 

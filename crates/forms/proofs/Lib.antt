@@ -9,3 +9,4 @@ pub mod Scanning
 pub mod Joining
 pub mod Passing
 pub mod Areas
+pub mod Putting

@@ -9,14 +9,14 @@ use native.Mathlib.Decide.{decLt, le-ind}
 use native.Mathlib.Omega.{arith}
 use lib.Dec.{eqb, ltb}
 use lib.ListN.{length, getD}
-use lib.Pow.{pow-mono, pow-pos}
+use lib.Pow.{pow-mono}
 use borrow.Author.Tests.{lt-ltb, le-ltb}
 use Rattle.ground.specs.Fold.{_⊕_, tab, every}
 use Rattle.ground.specs.Bits.{bit, ofBits, bitAt, Words}
 use Rattle.ground.proofs.Xor.{⊕-false}
 use Rattle.ground.proofs.Folds.{every-all, every-at}
-use Rattle.ground.proofs.Tabs.{length-tab, getD-tab, getD-tab-out}
-use Rattle.ground.proofs.Numbers.{ofBits-lt, bit-ofBits, words-same}
+use Rattle.ground.proofs.Tabs.{length-tab, getD-tab}
+use Rattle.ground.proofs.Numbers.{ofBits-lt, bit-ofBits, words-of, words-same}
 use Rattle.forms.specs.Form.{Form, constant, parameter, putIn, seen, value, has}
 use Rattle.forms.specs.Words.{bitOf, pack, ofTerms, unpack, fits}
 use Rattle.forms.proofs.Values.{pairs, value-agree, value-constant, value-parameter, value-putIn, canonical}
@@ -26,17 +26,12 @@ use Rattle.forms.proofs.Document.{bitOf-low, bitOf-high}
 -- 64 words, with the form's bits
 pub pack-words : (m : ℕ) (f : Form m) → Words 64 (pack m f)
 unfolding pack
-pack-words m f = record {
-  long = length-tab 64 word;
-  small = λ i. go i (decLt i 64);
-}
+pack-words m f =
+    words-of 64 (pack m f) (length-tab 64 word)
+    (λ i h. subst (λ x. x < 2 ^ 64) (sym (getD-tab 64 word i 0 h)) (ofBits-lt 64 (λ t. bitOf m f (64 * i + t))))
   where
     word : ℕ → ℕ
     word i = ofBits 64 (λ t. bitOf m f (64 * i + t))
-
-    go : (i : ℕ) → Dec (i < 64) → getD (tab 64 (λ i. ofBits 64 (λ t. bitOf m f (64 * i + t)))) i 0 < 2 ^ 64
-    go i (yes h) = subst (λ x. x < 2 ^ 64) (sym (getD-tab 64 word i 0 h)) (ofBits-lt 64 (λ t. bitOf m f (64 * i + t)))
-    go i (no h) = subst (λ x. x < 2 ^ 64) (sym (getD-tab-out 64 word i 0 (omega arith))) (pow-pos 64)
 
 pub bit-pack : (m : ℕ) (f : Form m) (k : ℕ) → k < 4096 → bitAt (pack m f) k ≡ bitOf m f k
 unfolding pack bitAt

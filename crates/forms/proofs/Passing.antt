@@ -9,7 +9,7 @@ use native.Mathlib.Nat.{div-eq-of-lt, le-refl}
 use native.Mathlib.Numerals.{add-one}
 use native.Mathlib.Decide.{decLt}
 use native.Mathlib.Omega.{arith}
-use lib.ListN.{length, getD, set, List·getD-eq-default}
+use lib.ListN.{length, getD, set}
 use lib.Seq.{getD-set-same, getD-set-other}
 use borrow.Author.Count.{below-more}
 use lib.Bits.{bitXor, bitAnd}
@@ -21,7 +21,7 @@ use Rattle.ground.specs.Bits.{bit, bitAt, Words}
 use Rattle.ground.proofs.Xor.{⊕-false}
 use Rattle.ground.proofs.Folds.{every-at}
 use Rattle.ground.proofs.Bits.{bit-xor, bit-and, bit-shr, bit-shl, bit-low, bit-le, bit-true, bit-false, one-shl}
-use Rattle.ground.proofs.Numbers.{bit-minus}
+use Rattle.ground.proofs.Numbers.{bit-minus, words-of}
 use Rattle.forms.specs.Form.{Form, has, truth}
 use Rattle.forms.specs.Words.{most, bitOf, pack}
 use Rattle.forms.specs.Steps.{masks, passedBit, PassedWord, Passed}
@@ -130,17 +130,13 @@ pass-kept row p i by h step e t k =
 pub passed-row : (row r : List ℕ) (p : ℕ) → length r ≡ 64 → ((i : ℕ) → i < 64 → (getD r i 0 < 2 ^ 64) × PassedWord row p i (getD r i 0))
     → Passed row p r
 passed-row row r p l h = record {
-  words = record { long = l; small = λ i. small i (decLt i 64) };
+  words = words-of 64 r l (λ i n. h i n .0);
   bits = λ k n.
       bits-of k n
       ∙ h (k / 64) (omega arith) .1 (k % 64) (omega arith)
       ∙ ap (passedBit row p) (let e : 64 * (k / 64) + k % 64 ≡ k = omega arith in e);
 }
   where
-    small : (i : ℕ) → Dec (i < 64) → getD r i 0 < 2 ^ 64
-    small i (yes n) = h i n .0
-    small i (no n) = subst (λ x. x < 2 ^ 64) (sym (List·getD-eq-default r 0 (let e : length r ≤ i = omega arith in e))) (pow-pos 64)
-
     bits-of : (k : ℕ) → k < 4096 → bitAt r k ≡ bit (getD r (k / 64) 0) (k % 64)
     bits-of k n =
         ap (bitAt r) (let e : k ≡ 64 * (k / 64) + k % 64 = omega arith in e) ∙ bitAt-word r (k / 64) (k % 64) (omega arith)

@@ -7,7 +7,7 @@ use lib.Bits.{bitOr}
 use lib.Dec.{eqb}
 use Rattle.ground.specs.Fold.{_⊕_, parity}
 use Rattle.ground.specs.Bits.{bit, bitAt, Words}
-use Rattle.forms.specs.Form.{Form, truth}
+use Rattle.forms.specs.Form.{Form, xor, truth, each}
 use Rattle.forms.specs.Words.{most, pack}
 use Rattle.forms.specs.Area.{rowAt}
 
@@ -45,3 +45,8 @@ pub record Passed (row : List ℕ) (p : ℕ) (r : List ℕ) : Type 0 where
 -- the first count rows of ts are the truth values of σ's forms
 abbrev pub Tables : List ℕ → ℕ → (ℕ → Form most) → Type 0
 Tables ts count σ = (j : ℕ) → j < count → rowAt ts j ≡ pack most (truth most (σ j))
+
+-- r is the row of a's form xor (p's form and b's form, bit by bit)
+abbrev pub Mixed : List ℕ → List ℕ → List ℕ → List ℕ → Type 0
+Mixed a p b r =
+    (m : ℕ) (f g h : Form m) → a ≡ pack m f → p ≡ pack m g → b ≡ pack m h → r ≡ pack m (xor m f (each m g h))

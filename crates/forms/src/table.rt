@@ -7,7 +7,7 @@ ghost use Rattle.ground.specs.Bits.{bitAt};
 ghost use Rattle.forms.specs.Form.{Form, truth, xor, each, putIn};
 ghost use Rattle.forms.specs.Words.{most, pack, ofTerms};
 ghost use Rattle.forms.specs.Area.{rowAt, formIn, Holds};
-ghost use Rattle.forms.specs.Steps.{PassedWord, Passed, Tables};
+ghost use Rattle.forms.specs.Steps.{PassedWord, Passed, Mixed, Tables};
 
 // The bits of a word whose number lacks parameter p.
 const MASKS: [u64; 6] = [
@@ -56,6 +56,18 @@ pub(crate) fn truth_of(row: [u64; 64]) -> [u64; 64]
     for p in 0..12 {
         let s = pass(r, p);
         r = s;
+    }
+    r
+}
+
+// One step of putting in: a xor (row q of the tables and b), 64 settings at a time.
+fn mix(a: [u64; 64], tables: &[u64; 768], q: usize, b: [u64; 64]) -> [u64; 64]
+    requires { ⌜ q < 12 ⌝ }
+    ensures { λ r. ⌜ Mixed a (rowAt (now (tables .entry)) q) b r ⌝ }
+{
+    let mut r = [0u64; 64];
+    for i in 0..64 {
+        r[i] = a[i] ^ (tables[64 * q + i] & b[i]);
     }
     r
 }

@@ -7,9 +7,10 @@ use mathlib.Core.List.{List}
 use Prim.Native.Nat.{ℕ, zero, suc, _+_, _-_, _*_, _/_, _%_, _^_, _≤_, _<_}
 use native.Mathlib.Nat.{mod-lt, mod-one, mod-eq-of-lt, two-pow-succ, zero-add, lt-of-le-of-lt}
 use native.Mathlib.Numerals.{one-add}
+use native.Mathlib.Decide.{decLt}
 use native.Mathlib.Omega.{arith}
 use lib.Dec.{eqb, lit<}
-use lib.ListN.{length, getD, replicate, length-replicate}
+use lib.ListN.{length, getD, replicate, length-replicate, List·getD-eq-default}
 use lib.Seq.{ext-getD}
 use lib.Pow.{mod-pow-add, pow-lt, pow-pos}
 use lib.Bits.{bitAnd, bitXor, and-le-r, xor-add-and}
@@ -87,6 +88,14 @@ bit-minus x p t e =
 
     here : (s : ℕ) → s < suc p → bit (bitAnd x (2 ^ p)) s ≡ bit (2 ^ p) s
     here s h = bit-and x (2 ^ p) s ∙ ap (λ y. bit x s && y) (bit-pow p s) ∙ pick-one s (eqb p s) refl ∙ sym (bit-pow p s)
+
+-- a list of n small numbers is n words
+pub words-of : (n : ℕ) (ws : List ℕ) → length ws ≡ n → ((i : ℕ) → i < n → getD ws i 0 < 2 ^ 64) → Words n ws
+words-of n ws l h = record { long = l; small = λ i. go i (decLt i n) }
+  where
+    go : (i : ℕ) → Dec (i < n) → getD ws i 0 < 2 ^ 64
+    go i (yes k) = h i k
+    go i (no k) = subst (λ x. x < 2 ^ 64) (sym (List·getD-eq-default ws 0 (let e : length ws ≤ i = omega arith in e))) (pow-pos 64)
 
 -- n words are their 64 n bits
 pub words-same : (n : ℕ) (a b : List ℕ) → Words n a → Words n b → ((k : ℕ) → k < 64 * n → bitAt a k ≡ bitAt b k) → a ≡ b
