@@ -8,7 +8,7 @@ use native.Mathlib.Nat.{two-pow-succ, zero-add, le-refl, le-trans}
 use native.Mathlib.Decide.{decLt, le-ind}
 use native.Mathlib.Omega.{arith}
 use lib.Dec.{eqb, ltb}
-use lib.ListN.{length, getD}
+use lib.ListN.{length, getD, replicate}
 use lib.Pow.{pow-mono}
 use borrow.Author.Tests.{lt-ltb, le-ltb}
 use Rattle.ground.specs.Fold.{_⊕_, tab, every}
@@ -16,7 +16,7 @@ use Rattle.ground.specs.Bits.{bit, ofBits, bitAt, Words}
 use Rattle.ground.proofs.Xor.{⊕-false}
 use Rattle.ground.proofs.Folds.{every-all, every-at}
 use Rattle.ground.proofs.Tabs.{length-tab, getD-tab}
-use Rattle.ground.proofs.Numbers.{ofBits-lt, bit-ofBits, words-of, words-same}
+use Rattle.ground.proofs.Numbers.{ofBits-lt, bit-ofBits, words-of, words-same, zero-words, zero-bit}
 use Rattle.forms.specs.Form.{Form, constant, parameter, putIn, seen, value, has}
 use Rattle.forms.specs.Words.{bitOf, pack, ofTerms, unpack, fits}
 use Rattle.forms.proofs.Values.{pairs, value-agree, value-constant, value-parameter, value-putIn, canonical}
@@ -141,3 +141,11 @@ bit-seen m n f k h = le-ind (λ x. bitOf x (seen m x f) k ≡ bitOf m f k) (ap (
 pub pack-seen : (m n : ℕ) (f : Form m) → m ≤ n → pack m f ≡ pack n (seen m n f)
 pack-seen m n f h =
     pack-is n (seen m n f) (pack m f) (pack-words m f) (λ k l. bit-pack m f k l ∙ sym (bit-seen m n f k h))
+
+-- false is 64 words of zeros
+pub pack-false : (m : ℕ) → replicate 64 0 ≡ pack m (constant m false)
+pack-false m = pack-is m (constant m false) (replicate 64 0) (zero-words 64) (λ k h. zero-bit 64 k ∙ sym (none k (decLt k (2 ^ m))))
+  where
+    none : (k : ℕ) → Dec (k < 2 ^ m) → bitOf m (constant m false) k ≡ false
+    none k (yes h) = bitOf-low m (constant m false) k h ∙ has-false m (bit k)
+    none k (no h) = bitOf-high m (constant m false) k (omega arith)

@@ -8,6 +8,7 @@ use native.Mathlib.Decide.{decLt}
 use native.Mathlib.Omega.{arith}
 use lib.ListN.{getD}
 use Rattle.ground.specs.Bits.{bit, bitAt}
+use Rattle.forms.specs.Steps.{Next}
 use Rattle.ground.proofs.Bits.{bit-true, bit-false, bit-shr, bit-zero}
 
 -- what the code's test of bit k says
@@ -41,3 +42,11 @@ onwards P a k n low high i h l = go (decLt i k)
 -- one place
 pub only-one : (P : ℕ → Type 0) (k : ℕ) → P k → (i : ℕ) → k ≤ i → i < k + 1 → P i
 only-one P k p i h l = let e : k ≡ i = omega arith in subst P e p
+
+-- a term among one bit is that bit
+pub next-alone : (row : List ℕ) (k end r : ℕ) → Next row k end r → (r ≡ end → ⊥) → end ≡ k + 1 → bitAt row k ≡ true
+next-alone row k end r next n e =
+    let l : r ≤ end = next .high in
+    let a : k ≤ r = next .low (omega arith) in
+    let q : r ≡ k = omega arith in
+    ap (bitAt row) (sym q) ∙ next .here (omega arith)

@@ -7,8 +7,8 @@ use lib.Bits.{bitOr}
 use lib.Dec.{eqb}
 use Rattle.ground.specs.Fold.{_⊕_, parity}
 use Rattle.ground.specs.Bits.{bit, bitAt, Words}
-use Rattle.forms.specs.Form.{Form, xor, truth, each}
-use Rattle.forms.specs.Words.{most, pack}
+use Rattle.forms.specs.Form.{Form, xor, putIn, truth, each}
+use Rattle.forms.specs.Words.{most, pack, ofTerms}
 use Rattle.forms.specs.Area.{rowAt}
 
 -- r is the first term of the row from `from` on and before `to`, or `to` where there is none
@@ -50,3 +50,8 @@ Tables ts count σ = (j : ℕ) → j < count → rowAt ts j ≡ pack most (truth
 abbrev pub Mixed : List ℕ → List ℕ → List ℕ → List ℕ → Type 0
 Mixed a p b r =
     (m : ℕ) (f g h : Form m) → a ≡ pack m f → p ≡ pack m g → b ≡ pack m h → r ≡ pack m (xor m f (each m g h))
+
+-- r holds the truth values of the form of the row's 2^p bits from k on, with the forms of the tables put in
+abbrev pub PutTerms : List ℕ → List ℕ → ℕ → ℕ → List ℕ → Type 0
+PutTerms row ts p k r =
+    (σ : ℕ → Form most) → Tables ts p σ → r ≡ pack most (truth most (putIn p most (ofTerms p (bitAt row) k) σ))

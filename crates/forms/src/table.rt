@@ -7,7 +7,7 @@ ghost use Rattle.ground.specs.Bits.{bitAt};
 ghost use Rattle.forms.specs.Form.{Form, truth, xor, each, putIn};
 ghost use Rattle.forms.specs.Words.{most, pack, ofTerms};
 ghost use Rattle.forms.specs.Area.{rowAt, formIn, Holds};
-ghost use Rattle.forms.specs.Steps.{PassedWord, Passed, Mixed, Tables};
+ghost use Rattle.forms.specs.Steps.{PassedWord, Passed, Mixed, Tables, PutTerms};
 
 // The bits of a word whose number lacks parameter p.
 const MASKS: [u64; 6] = [
@@ -70,4 +70,24 @@ fn mix(a: [u64; 64], tables: &[u64; 768], q: usize, b: [u64; 64]) -> [u64; 64]
         r[i] = a[i] ^ (tables[64 * q + i] & b[i]);
     }
     r
+}
+
+// The truth values of the form of the row's 2^p bits from k on, with the forms whose truth values are given put in.
+fn put_terms(row: &[u64; 64], tables: &[u64; 768], p: usize, k: usize) -> [u64; 64]
+    requires { ⌜ (p ≤ 12) × (k + 2 ^ p ≤ 4096) ⌝ }
+    ensures { λ r. ⌜ PutTerms (now (row .entry)) (now (tables .entry)) p k r ⌝ }
+{
+    let size: usize = 1 << p;
+    let end = k + size;
+    if next_term(row, k, end) == end {
+        return [0u64; 64];
+    }
+    if p == 0 {
+        return [0xFFFF_FFFF_FFFF_FFFF; 64];
+    }
+    let q = p - 1;
+    let half: usize = 1 << q;
+    let a = put_terms(row, tables, q, k);
+    let b = put_terms(row, tables, q, k + half);
+    mix(a, tables, q, b)
 }

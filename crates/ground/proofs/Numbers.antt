@@ -13,7 +13,7 @@ use lib.Dec.{eqb, lit<}
 use lib.ListN.{length, getD, replicate, length-replicate, List·getD-eq-default}
 use lib.Seq.{ext-getD}
 use lib.Pow.{mod-pow-add, pow-lt, pow-pos}
-use lib.Bits.{bitAnd, bitXor, and-le-r, xor-add-and}
+use lib.Bits.{bitAnd, bitXor, and-le-r, and-mask, xor-add-and}
 use borrow.Author.Tests.{eq-eqb, ne-eqb, eqb-true, eqb-false}
 use Rattle.ground.specs.Fold.{_⊕_}
 use Rattle.ground.specs.Bits.{bit, ofBits, bitAt, Words}
@@ -88,6 +88,13 @@ bit-minus x p t e =
 
     here : (s : ℕ) → s < suc p → bit (bitAnd x (2 ^ p)) s ≡ bit (2 ^ p) s
     here s h = bit-and x (2 ^ p) s ∙ ap (λ y. bit x s && y) (bit-pow p s) ∙ pick-one s (eqb p s) refl ∙ sym (bit-pow p s)
+
+-- 2 ^ n - 1 has every bit below n
+pub bit-ones : (n t : ℕ) → t < n → bit (2 ^ n - 1) t ≡ true
+bit-ones n t h =
+    let here : bit (2 ^ t) t ≡ true = bit-pow t t ∙ eq-eqb t t refl in
+    sym (ap (λ b. b && bit (2 ^ n - 1) t) here) ∙ sym (bit-and (2 ^ t) (2 ^ n - 1) t)
+    ∙ ap (λ x. bit x t) (and-mask (2 ^ t) n ∙ mod-eq-of-lt (pow-lt h)) ∙ here
 
 -- a list of n small numbers is n words
 pub words-of : (n : ℕ) (ws : List ℕ) → length ws ≡ n → ((i : ℕ) → i < n → getD ws i 0 < 2 ^ 64) → Words n ws

@@ -59,9 +59,11 @@ loop-less : tie.Need-loop-less Inv-loop μ-loop
 loop-less c = search needs
 
 loop-again : tie.Need-loop-again Inv-loop μ-loop
-loop-again c =
-    (omega arith, search needs,
-    filled-more (c .before .before .loop .r) _ _ 0 _ (search needs) refl (c .before .before .loop .inv .2))
+loop-again c = (
+  omega arith,
+  search needs,
+  filled-more (c .before .before .loop .r) _ _ 0 _ (search needs) refl (c .before .before .loop .inv .2),
+)
 
 returns : tie.Need-returns Inv-loop μ-loop
 returns c =
