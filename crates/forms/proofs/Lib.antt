@@ -7,3 +7,5 @@ pub mod Truths
 pub mod Packing
 pub mod Scanning
 pub mod Joining
+pub mod Making
+pub mod Reading

@@ -19,3 +19,8 @@ pub record Next (row : List ℕ) (from to r : ℕ) : Type 0 where
 pub record Joined (old b : List ℕ) (i : ℕ) (r : List ℕ) : Type 0 where
   pub words : Words 64 r
   pub bits : (l : ℕ) → l < 4096 → bitAt r l ≡ bitAt old l ⊕ parity 4096 (λ j. bitAt b j && eqb (bitOr i j) l)
+
+-- r is the row of term k alone
+pub record Alone (k : ℕ) (r : List ℕ) : Type 0 where
+  pub words : Words 64 r
+  pub bits : (l : ℕ) → l < 4096 → bitAt r l ≡ eqb k l

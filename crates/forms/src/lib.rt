@@ -1,5 +1,6 @@
 // Forms over up to 12 parameters as rows of 64 words, and rows in a lent area.
 mod join;
+pub mod rows;
 mod scan;
 
 use join::join_term;
