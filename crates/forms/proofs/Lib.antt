@@ -5,6 +5,7 @@ pub mod Terms
 pub mod Document
 pub mod Truths
 pub mod Packing
+pub mod OnlyOne
 pub mod Scanning
 pub mod Joining
 pub mod Making

@@ -8,6 +8,10 @@ use Rattle.ground.specs.Fold.{tab, every}
 use Rattle.ground.specs.Bits.{bit, ofBits, bitAt}
 use Rattle.forms.specs.Form.{Form, has}
 
+-- the parameters that 64 words have room for
+unfoldable pub most : ℕ
+most = 12
+
 -- bit k of a form says whether it has the term of k's one-bits; bits from 2^m on are zero
 unfoldable pub bitOf : (m : ℕ) → Form m → ℕ → Bool
 bitOf m f k = ltb k (2 ^ m) && has m f (bit k)
