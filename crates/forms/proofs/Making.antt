@@ -101,6 +101,7 @@ bit-alone m f n h p k = go (decLt k (2 ^ m))
     go (yes l) = bitOf-low m f k l ∙ p k l
     go (no l) = bitOf-high m f k (omega arith) ∙ sym (ne-eqb n k (λ q. let z : ⊥ = omega arith in z))
 
+-- the constants and a parameter, bit by bit
 pub bit-true : (m k : ℕ) → bitOf m (constant m true) k ≡ eqb 0 k
 bit-true m = bit-alone m (constant m true) 0 (pow-pos m) (has-true m)
 
@@ -135,6 +136,7 @@ parameter-far m p h far =
 pub parameter-past : (m p : ℕ) → m ≤ p → replicate 64 0 ≡ pack m (parameter m p)
 parameter-past m p h = false-row m ∙ ap (pack m) (sym (parameter-none m p h))
 
+-- the exclusive or of two forms, bit by bit
 pub bit-xor-form : (m : ℕ) (f g : Form m) (k : ℕ) → bitOf m (xor m f g) k ≡ bitOf m f k ⊕ bitOf m g k
 unfolding bitOf
 bit-xor-form m f g k =

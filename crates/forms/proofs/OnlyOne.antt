@@ -13,9 +13,13 @@ use Rattle.forms.specs.Words.{most, pack, unpack}
 use Rattle.forms.specs.Rows.{OfForm, OfForms}
 use Rattle.forms.proofs.Packing.{bit-unpack, pack-is}
 
+-- the most is 12
 pub most-is : most ≡ 12
 unfolding most
 most-is = refl
+
+pub most-few : most ≤ 12
+most-few = subst (λ m. m ≤ 12) (sym most-is) (le-refl 12)
 
 -- 64 words are a form over any number of parameters with room for all their bits
 pub whole-over : (m : ℕ) (ws : List ℕ) → 4096 ≤ 2 ^ m → Words 64 ws → ws ≡ pack m (unpack m ws)
@@ -30,9 +34,6 @@ whole-most ws w = whole-over most ws (subst (λ m. 4096 ≤ 2 ^ m) (sym most-is)
 -- any 64 words are a form over 12 parameters
 pub whole : (ws : List ℕ) → Words 64 ws → ws ≡ pack 12 (unpack 12 ws)
 whole ws w = subst (λ m. ws ≡ pack m (unpack m ws)) most-is (whole-most ws w)
-
-pub most-few : most ≤ 12
-most-few = subst (λ m. m ≤ 12) (sym most-is) (le-refl 12)
 
 -- one answer about a row's form
 pub only-form : {A : Type 0} (answer : (m : ℕ) → Form m → A) (row : List ℕ) (r r′ : A) → Words 64 row

@@ -57,6 +57,7 @@ same-eq (suc m) f g e =
     second true b q = q
     second false b q = absurd (false≢true q)
 
+-- forms that differ are told apart
 pub same-not : (m : ℕ) (f g : Form m) → (f ≡ g → ⊥) → same m f g ≡ false
 same-not m f g h = go (same m f g) refl
   where
@@ -89,6 +90,7 @@ which-open m f h k =
     sym (ap₂ (λ a b. cond a True (cond b False Open)) (same-not m f (constant m true) h)
     (same-not m f (constant m false) k))
 
+-- the row of a form f
 module _ (m : ℕ) (f : Form m) (row : List ℕ) (few : m ≤ 12) (e : row ≡ pack m f) where
   row-bit : (k : ℕ) → k < 4096 → bitAt row k ≡ bitOf m f k
   row-bit k h = ap (λ ws. bitAt ws k) e ∙ bit-pack m f k h
@@ -108,6 +110,7 @@ module _ (m : ℕ) (f : Form m) (row : List ℕ) (few : m ≤ 12) (e : row ≡ p
       has-it : {g : Form m} → f ≡ g → bitOf m g k ≡ true
       has-it q = ap (λ x. bitOf m x k) (sym q) ∙ sym (row-bit k h) ∙ next .here h
 
+  -- no term but perhaps the empty one
   module _ (k : ℕ) (next : Next row 1 4096 k) (end : 4096 ≤ k) where
     others : (l : ℕ) → 1 ≤ l → l < 4096 → bitAt row l ≡ false
     others l a b = next .none l a (omega arith)
@@ -172,6 +175,7 @@ pub record Naming (row : List ℕ) (named k : ℕ) : Type 0 where
   pub here : k < 4096 → bitAt row k ≡ true
   pub bits : (j : ℕ) → bit named j ≡ some k (λ i. bit i j && bitAt row i)
 
+-- no term yet
 pub naming-first : (row : List ℕ) (k : ℕ) → Next row 0 4096 k → Naming row 0 k
 naming-first row k next = record {
   small = omega arith;
