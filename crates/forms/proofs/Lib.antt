@@ -5,8 +5,11 @@ pub mod Terms
 pub mod Document
 pub mod Truths
 pub mod Packing
+pub mod OnlyOne
 pub mod Scanning
 pub mod Joining
+pub mod Making
+pub mod Reading
 pub mod Passing
 pub mod Areas
 pub mod Putting

@@ -23,6 +23,11 @@ pub record Joined (old b : List ℕ) (i : ℕ) (r : List ℕ) : Type 0 where
   pub words : Words 64 r
   pub bits : (l : ℕ) → l < 4096 → bitAt r l ≡ bitAt old l ⊕ parity 4096 (λ j. bitAt b j && eqb (bitOr i j) l)
 
+-- r is the row of term k alone
+pub record Alone (k : ℕ) (r : List ℕ) : Type 0 where
+  pub words : Words 64 r
+  pub bits : (l : ℕ) → l < 4096 → bitAt r l ≡ eqb k l
+
 -- masks of the bits of a word whose number lacks parameter p, for the six parameters inside a word
 abbrev pub masks : List ℕ
 masks =

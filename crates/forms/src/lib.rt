@@ -1,6 +1,7 @@
 // Forms over up to 12 parameters as rows of 64 words, and rows in a lent area.
 pub mod area;
 mod join;
+pub mod rows;
 mod scan;
 mod table;
 

@@ -26,6 +26,14 @@ loop-holds c = adding-first _ _ _ _ _ (c .before .pre .1) (λ l k. refl) (c .nex
 small : (c : tie.In-loop Inv-loop μ-loop) → bitOr (c .before .before .before .args .i) (c .before .loop .j) < 4096
 small c = union-lt _ _ (c .before .before .before .pre .0) (c .loop-test .taken)
 
+-- one turn turns over the union's bit
+loop-again : tie.Need-loop-again Inv-loop μ-loop
+loop-again c =
+    let sofar = c .before .before .before .loop .inv in
+    let less = small (c .before .before) in
+    adding-more _ _ _ _ _ _ _ sofar (c .before .before .loop-test .taken)
+    (flip-words _ _ less (sofar .words)) (λ l k. flip-bit _ _ l less (sofar .words)) (c .next-term2 .ensures)
+
 mul-r : tie.Need-mul-r Inv-loop μ-loop
 mul-r c = omega (arith, small c)
 
@@ -49,13 +57,6 @@ next-term-requires-2 c κs = search needs
 
 loop-less : tie.Need-loop-less Inv-loop μ-loop
 loop-less c = omega (arith, c .next-term2 .ensures .low (omega arith))
-
-loop-again : tie.Need-loop-again Inv-loop μ-loop
-loop-again c =
-    let sofar = c .before .before .before .loop .inv in
-    let less = small (c .before .before) in
-    adding-more _ _ _ _ _ _ _ sofar (c .before .before .loop-test .taken)
-    (flip-words _ _ less (sofar .words)) (λ l k. flip-bit _ _ l less (sofar .words)) (c .next-term2 .ensures)
 
 returns : tie.Need-returns Inv-loop μ-loop
 returns c = record {
