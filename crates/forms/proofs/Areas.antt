@@ -8,11 +8,12 @@ use Prim.Native.Nat.{ℕ, suc, _+_, _-_, _*_, _/_, _%_, _^_, _≤_, _<_}
 use native.Mathlib.Decide.{decLt}
 use native.Mathlib.Omega.{arith}
 use lib.Dec.{leb, ltb, lit<}
-use lib.ListN.{length, getD, List·getD-eq-default}
+use lib.ListN.{length, getD, replicate, List·getD-eq-default}
 use lib.Seq.{ext-getD}
 use borrow.Author.Tests.{lt-ltb, le-ltb, le-leb, lt-leb}
 use Rattle.ground.specs.Bits.{Words}
 use Rattle.ground.proofs.Tabs.{length-tab, getD-tab, getD-tab-out, tab-is, tab-cong}
+use Rattle.ground.proofs.Numbers.{zero-at}
 use Rattle.forms.specs.Area.{rowAt, putRows}
 
 -- i is below n, or not
@@ -173,3 +174,12 @@ row-words ws place p =
           ⊎-elim (λ h. subst (λ x. x < 2 ^ 64) (sym (row-at ws place i h)) (p (64 * place + i)))
           (λ h. subst (λ x. x < 2 ^ 64) (sym (getD-tab-out 64 _ i 0 h)) (lit< tt)) (less-or-not i 64);
     }
+
+-- a row past the area's end is zeros
+pub row-past : (ws : List ℕ) (place : ℕ) → length ws ≤ 64 * place → rowAt ws place ≡ replicate 64 0
+row-past ws place h =
+    ext-getD 0 (rowAt ws place) (replicate 64 0) (length-rowAt ws place)
+    (λ i l.
+    row-at ws place i (subst (λ n. i < n) (length-rowAt ws place) l)
+    ∙ List·getD-eq-default ws 0 (let e : length ws ≤ 64 * place + i = omega arith in e)
+    ∙ sym (zero-at 64 i))

@@ -13,3 +13,4 @@ pub mod Reading
 pub mod Passing
 pub mod Areas
 pub mod Putting
+pub mod Widening

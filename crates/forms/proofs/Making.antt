@@ -1,28 +1,27 @@
 -- Rows that are made: of one term, of constants, of parameters and of the exclusive or.
 -- Assumes nothing.
 use mathlib.Core.Path.{_≡_, refl, sym, ap, ap₂, _∙_, subst}
-use mathlib.Core.Bool.{Bool, true, false, _&&_, cond, and-false}
+use mathlib.Core.Bool.{Bool, true, false, cond}
 use mathlib.Core.List.{List}
 use Prim.Native.Nat.{ℕ, zero, suc, _+_, _*_, _/_, _%_, _^_, _≤_, _<_}
 use native.Mathlib.Decide.{decLt}
 use native.Mathlib.Omega.{arith}
 use lib.Bits.{bitXor, xor-lt, xor-zero-l}
-use lib.Dec.{eqb, ltb}
-use lib.ListN.{length, getD, set, replicate, List·getD-eq-default}
+use lib.Dec.{eqb}
+use lib.ListN.{length, getD, set, replicate}
 use lib.Pow.{pow-lt, pow-mono, pow-pos}
 use borrow.Author.Tests.{eq-eqb, ne-eqb, eqb-true, eqb-false}
 use Rattle.ground.specs.Fold.{_⊕_}
 use Rattle.ground.specs.Bits.{bit, bitAt, Words}
-use Rattle.ground.proofs.Xor.{&&-⊕}
 use Rattle.ground.proofs.Bits.{bit-xor}
 use Rattle.ground.proofs.Numbers.{zero-at, zero-words, zero-bit}
 use Rattle.forms.specs.Form.{Form, constant, parameter, xor, has}
 use Rattle.forms.specs.Words.{bitOf, pack}
 use Rattle.forms.specs.Steps.{Alone}
 use Rattle.forms.proofs.Values.{parameter-none}
-use Rattle.forms.proofs.Terms.{has-xor, has-false, has-low, has-high, by-halves}
+use Rattle.forms.proofs.Terms.{has-false, has-low, has-high, by-halves}
 use Rattle.forms.proofs.Document.{bitOf-low, bitOf-high}
-use Rattle.forms.proofs.Packing.{pack-words, bit-pack, pack-is}
+use Rattle.forms.proofs.Packing.{bitOf-xor, word-lt, word-bit, pack-by, pack-is, pack-false}
 use Rattle.forms.proofs.Joining.{flip, flip-words, flip-bit}
 
 -- the code's store into zeros: the row of term k alone
@@ -102,27 +101,19 @@ bit-alone m f n h p k = go (decLt k (2 ^ m))
     go (no l) = bitOf-high m f k (omega arith) ∙ sym (ne-eqb n k (λ q. let z : ⊥ = omega arith in z))
 
 -- the constants and a parameter, bit by bit
-pub bit-true : (m k : ℕ) → bitOf m (constant m true) k ≡ eqb 0 k
-bit-true m = bit-alone m (constant m true) 0 (pow-pos m) (has-true m)
+pub bitOf-true : (m k : ℕ) → bitOf m (constant m true) k ≡ eqb 0 k
+bitOf-true m = bit-alone m (constant m true) 0 (pow-pos m) (has-true m)
 
-pub bit-false : (m k : ℕ) → bitOf m (constant m false) k ≡ false
-unfolding bitOf
-bit-false m k = ap (λ b. ltb k (2 ^ m) && b) (has-false m (bit k)) ∙ and-false (ltb k (2 ^ m))
-
-pub bit-parameter : (m p k : ℕ) → p < m → bitOf m (parameter m p) k ≡ eqb (2 ^ p) k
-bit-parameter m p k h = bit-alone m (parameter m p) (2 ^ p) (pow-lt h) (λ i l. has-parameter m p i h l) k
+pub bitOf-parameter : (m p k : ℕ) → p < m → bitOf m (parameter m p) k ≡ eqb (2 ^ p) k
+bitOf-parameter m p k h = bit-alone m (parameter m p) (2 ^ p) (pow-lt h) (λ i l. has-parameter m p i h l) k
 
 -- their rows
 pub true-row : (m : ℕ) (r : List ℕ) → Alone 0 r → r ≡ pack m (constant m true)
-true-row m r a = pack-is m (constant m true) r (a .words) (λ k l. a .bits k l ∙ sym (bit-true m k))
-
-pub false-row : (m : ℕ) → replicate 64 0 ≡ pack m (constant m false)
-false-row m =
-    pack-is m (constant m false) (replicate 64 0) (zero-words 64) (λ k l. zero-bit 64 k ∙ sym (bit-false m k))
+true-row m r a = pack-is m (constant m true) r (a .words) (λ k l. a .bits k l ∙ sym (bitOf-true m k))
 
 pub parameter-row : (m p : ℕ) (r : List ℕ) → p < m → Alone (2 ^ p) r → r ≡ pack m (parameter m p)
 parameter-row m p r h a =
-    pack-is m (parameter m p) r (a .words) (λ k l. a .bits k l ∙ sym (bit-parameter m p k h))
+    pack-is m (parameter m p) r (a .words) (λ k l. a .bits k l ∙ sym (bitOf-parameter m p k h))
 
 -- a parameter for which the words have no room
 pub parameter-far : (m p : ℕ) → p < m → 12 ≤ p → replicate 64 0 ≡ pack m (parameter m p)
@@ -130,35 +121,18 @@ parameter-far m p h far =
     pack-is m (parameter m p) (replicate 64 0) (zero-words 64)
     (λ k l.
     let room : 2 ^ 12 ≤ 2 ^ p = pow-mono far in
-    zero-bit 64 k ∙ sym (bit-parameter m p k h ∙ ne-eqb (2 ^ p) k (λ q. let z : ⊥ = omega arith in z)))
+    zero-bit 64 k ∙ sym (bitOf-parameter m p k h ∙ ne-eqb (2 ^ p) k (λ q. let z : ⊥ = omega arith in z)))
 
 -- there is no such parameter
 pub parameter-past : (m p : ℕ) → m ≤ p → replicate 64 0 ≡ pack m (parameter m p)
-parameter-past m p h = false-row m ∙ ap (pack m) (sym (parameter-none m p h))
-
--- the exclusive or of two forms, bit by bit
-pub bit-xor-form : (m : ℕ) (f g : Form m) (k : ℕ) → bitOf m (xor m f g) k ≡ bitOf m f k ⊕ bitOf m g k
-unfolding bitOf
-bit-xor-form m f g k =
-    ap (λ b. ltb k (2 ^ m) && b) (has-xor m f g (bit k)) ∙ &&-⊕ (ltb k (2 ^ m)) (has m f (bit k)) (has m g (bit k))
+parameter-past m p h = pack-false m ∙ ap (pack m) (sym (parameter-none m p h))
 
 -- word by word, the exclusive or of two rows
 pub xor-row : (m : ℕ) (f g : Form m) (a b r : List ℕ) → a ≡ pack m f → b ≡ pack m g → length r ≡ 64
     → ((i : ℕ) → i < 64 → getD r i 0 ≡ bitXor (getD a i 0) (getD b i 0)) → r ≡ pack m (xor m f g)
-unfolding bitAt
 xor-row m f g a b r ea eb long each =
-    pack-is m (xor m f g) r (record { long = long; small = λ i. small i (decLt i 64) })
-    (λ k l.
-    ap (λ x. bit x (k % 64)) (each (k / 64) (omega arith))
-    ∙ bit-xor (getD a (k / 64) 0) (getD b (k / 64) 0) (k % 64)
-    ∙ ap₂ _⊕_ (ap (λ ws. bitAt ws k) ea ∙ bit-pack m f k l) (ap (λ ws. bitAt ws k) eb ∙ bit-pack m g k l)
-    ∙ sym (bit-xor-form m f g k))
-  where
-    words : (h : Form m) (ws : List ℕ) → ws ≡ pack m h → Words 64 ws
-    words h ws e = subst (λ x. Words 64 x) (sym e) (pack-words m h)
-
-    small : (i : ℕ) → Dec (i < 64) → getD r i 0 < 2 ^ 64
-    small i (yes h) =
-        subst (λ x. x < 2 ^ 64) (sym (each i h))
-        (xor-lt 64 (getD a i 0) (getD b i 0) (words f a ea .small i) (words g b eb .small i))
-    small i (no h) = subst (λ x. x < 2 ^ 64) (sym (List·getD-eq-default r 0 (omega arith))) (pow-pos 64)
+    pack-by m (xor m f g) r long
+    (λ i h. subst (λ x. x < 2 ^ 64) (sym (each i h)) (xor-lt 64 (getD a i 0) (getD b i 0) (word-lt m f a i ea) (word-lt m g b i eb)))
+    (λ i t h l.
+    ap (λ x. bit x t) (each i h) ∙ bit-xor (getD a i 0) (getD b i 0) t
+    ∙ ap₂ _⊕_ (word-bit m f a i t ea h l) (word-bit m g b i t eb h l) ∙ sym (bitOf-xor m f g (64 * i + t)))

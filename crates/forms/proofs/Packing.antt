@@ -13,15 +13,16 @@ use lib.Pow.{pow-mono}
 use borrow.Author.Tests.{lt-ltb, le-ltb}
 use Rattle.ground.specs.Fold.{_⊕_, tab, every}
 use Rattle.ground.specs.Bits.{bit, ofBits, bitAt, Words}
-use Rattle.ground.proofs.Xor.{⊕-false}
+use Rattle.ground.proofs.Xor.{⊕-false, &&-⊕}
 use Rattle.ground.proofs.Folds.{every-all, every-at}
 use Rattle.ground.proofs.Tabs.{length-tab, getD-tab}
 use Rattle.ground.proofs.Numbers.{ofBits-lt, bit-ofBits, words-of, words-same, zero-words, zero-bit}
-use Rattle.forms.specs.Form.{Form, constant, parameter, putIn, seen, value, has}
-use Rattle.forms.specs.Words.{bitOf, pack, ofTerms, unpack, fits}
+use Rattle.forms.specs.Form.{Form, constant, parameter, xor, putIn, seen, value, has, each}
+use Rattle.forms.specs.Words.{most, bitOf, pack, ofTerms, unpack, fits}
 use Rattle.forms.proofs.Values.{pairs, value-agree, value-constant, value-parameter, value-putIn, canonical}
-use Rattle.forms.proofs.Terms.{has-low, has-high, has-false, has-ofTerms, terms-same}
+use Rattle.forms.proofs.Terms.{has-low, has-high, has-xor, has-false, has-ofTerms, terms-same}
 use Rattle.forms.proofs.Document.{bitOf-low, bitOf-high}
+use Rattle.forms.proofs.Truths.{has-each}
 
 -- 64 words, with the form's bits
 pub pack-words : (m : ℕ) (f : Form m) → Words 64 (pack m f)
@@ -142,10 +143,58 @@ pub pack-seen : (m n : ℕ) (f : Form m) → m ≤ n → pack m f ≡ pack n (se
 pack-seen m n f h =
     pack-is n (seen m n f) (pack m f) (pack-words m f) (λ k l. bit-pack m f k l ∙ sym (bit-seen m n f k h))
 
+-- the bits of what is made bit by bit
+pub bitOf-false : (m k : ℕ) → bitOf m (constant m false) k ≡ false
+unfolding bitOf
+bitOf-false m k = ap (λ b. ltb k (2 ^ m) && b) (has-false m (bit k)) ∙ and-false (ltb k (2 ^ m))
+
+pub bitOf-xor : (m : ℕ) (f g : Form m) (k : ℕ) → bitOf m (xor m f g) k ≡ bitOf m f k ⊕ bitOf m g k
+unfolding bitOf
+bitOf-xor m f g k =
+    ap (λ b. ltb k (2 ^ m) && b) (has-xor m f g (bit k)) ∙ &&-⊕ (ltb k (2 ^ m)) (has m f (bit k)) (has m g (bit k))
+
+pub bitOf-each : (m : ℕ) (f g : Form m) (k : ℕ) → bitOf m (each m f g) k ≡ (bitOf m f k && bitOf m g k)
+unfolding bitOf
+bitOf-each m f g k =
+    ap (λ b. ltb k (2 ^ m) && b) (has-each m f g (bit k)) ∙ both (ltb k (2 ^ m)) (has m f (bit k)) (has m g (bit k))
+  where
+    both : (a b c : Bool) → (a && (b && c)) ≡ (a && b && (a && c))
+    both true b c = refl
+    both false b c = refl
+
+-- word i of a form's row, and a row that is made word by word
+pub word-lt : (m : ℕ) (f : Form m) (ws : List ℕ) (i : ℕ) → ws ≡ pack m f → getD ws i 0 < 2 ^ 64
+word-lt m f ws i e = subst (λ x. getD x i 0 < 2 ^ 64) (sym e) (pack-words m f .small i)
+
+pub word-bit : (m : ℕ) (f : Form m) (ws : List ℕ) (i t : ℕ) → ws ≡ pack m f → i < 64 → t < 64
+    → bit (getD ws i 0) t ≡ bitOf m f (64 * i + t)
+unfolding bitAt
+word-bit m f ws i t e h l =
+    ap (λ x. bit (getD x i 0) t) e
+    ∙ ap₂ (λ x y. bit (getD (pack m f) x 0) y) (let q : i ≡ (64 * i + t) / 64 = omega arith in q)
+    (let q : t ≡ (64 * i + t) % 64 = omega arith in q)
+    ∙ bit-pack m f (64 * i + t) (omega arith)
+
+pub pack-by : (m : ℕ) (f : Form m) (r : List ℕ) → length r ≡ 64 → ((i : ℕ) → i < 64 → getD r i 0 < 2 ^ 64)
+    → ((i t : ℕ) → i < 64 → t < 64 → bit (getD r i 0) t ≡ bitOf m f (64 * i + t)) → r ≡ pack m f
+unfolding bitAt
+pack-by m f r l small bits =
+    pack-is m f r (words-of 64 r l small)
+    (λ k h.
+    bits (k / 64) (k % 64) (omega arith) (omega arith)
+    ∙ ap (bitOf m f) (let e : 64 * (k / 64) + k % 64 ≡ k = omega arith in e))
+
 -- false is 64 words of zeros
 pub pack-false : (m : ℕ) → replicate 64 0 ≡ pack m (constant m false)
-pack-false m = pack-is m (constant m false) (replicate 64 0) (zero-words 64) (λ k h. zero-bit 64 k ∙ sym (none k (decLt k (2 ^ m))))
-  where
-    none : (k : ℕ) → Dec (k < 2 ^ m) → bitOf m (constant m false) k ≡ false
-    none k (yes h) = bitOf-low m (constant m false) k h ∙ has-false m (bit k)
-    none k (no h) = bitOf-high m (constant m false) k (omega arith)
+pack-false m = pack-is m (constant m false) (replicate 64 0) (zero-words 64) (λ k h. zero-bit 64 k ∙ sym (bitOf-false m k))
+
+-- 64 words have room for 12 parameters, and for no more
+pub most-is : most ≡ 12
+unfolding most
+most-is = refl
+
+pub most-few : most ≤ 12
+most-few = subst (λ m. m ≤ 12) (sym most-is) (le-refl 12)
+
+pub most-wide : 4096 ≤ 2 ^ most
+most-wide = subst (λ m. 4096 ≤ 2 ^ m) (sym most-is) (le-refl 4096)

@@ -28,7 +28,7 @@ use Rattle.forms.specs.Steps.{masks, passedBit, PassedWord, Passed}
 use Rattle.forms.proofs.Terms.{has-agree}
 use Rattle.forms.proofs.Document.{bitOf-low}
 use Rattle.forms.proofs.Truths.{pass, passes, has-pass, passes-truth}
-use Rattle.forms.proofs.Packing.{bit-pack, pack-is}
+use Rattle.forms.proofs.Packing.{bit-pack, pack-is, most-is, most-wide}
 
 -- the masks' rule, computed at each parameter and each bit
 mask-right : ℕ → ℕ → Bool
@@ -173,14 +173,6 @@ passed-more row r p i x e h small made sofar =
     subst (λ y. (y < 2 ^ 64) × PassedWord row p j y)
     (sym (getD-set-other r i j x 0 (λ e. let z : ⊥ = omega arith in z))) (sofar j l))
     (subst (λ y. (y < 2 ^ 64) × PassedWord row p i y) (sym (getD-set-same r i x 0 (omega arith))) (small, made))
-
--- 64 words have room for 12 parameters
-pub most-is : most ≡ 12
-unfolding most
-most-is = refl
-
-pub most-wide : 4096 ≤ 2 ^ most
-most-wide = subst (λ m. 4096 ≤ 2 ^ m) (sym most-is) (le-refl 4096)
 
 -- one pass more, at all 4096 bits
 pub truth-more : (f : Form most) (row r : List ℕ) (p : ℕ) → p < 12 → row ≡ pack most (passes most p f) → Passed row p r

@@ -23,12 +23,12 @@ use Rattle.forms.specs.Form.{Form, constant, has, names, same}
 use Rattle.forms.specs.Words.{bitOf, pack, fits}
 use Rattle.forms.specs.Rows.{whichConstant}
 use Rattle.forms.specs.Steps.{Next}
-use Rattle.forms.specs.declared.Truth.the-variants.{True, False, Open}
+use Rattle.forms.specs.declared.rows.Truth.the-variants.{True, False, Open}
 use Rattle.forms.proofs.Values.{pairs}
 use Rattle.forms.proofs.Document.{bitOf-low, bitOf-high}
-use Rattle.forms.proofs.Packing.{room, pack-words, bit-pack, pack-is, pack-inj}
+use Rattle.forms.proofs.Packing.{bitOf-false, room, pack-words, bit-pack, pack-is, pack-inj}
 use Rattle.forms.proofs.Joining.{union-lt}
-use Rattle.forms.proofs.Making.{bit-true, bit-false, true-row}
+use Rattle.forms.proofs.Making.{bitOf-true, true-row}
 
 -- the test for the same form is right
 pub same-refl : (m : ℕ) (f : Form m) → same m f f ≡ true
@@ -67,7 +67,7 @@ same-not m f g h = go (same m f g) refl
 
 -- the two constants differ
 pub constants-differ : (m : ℕ) → constant m false ≡ constant m true → ⊥
-constants-differ m e = false≢true (sym (bit-false m 0) ∙ ap (λ f. bitOf m f 0) e ∙ bit-true m 0)
+constants-differ m e = false≢true (sym (bitOf-false m 0) ∙ ap (λ f. bitOf m f 0) e ∙ bitOf-true m 0)
 
 -- a form that is true, that is false, and that is neither
 pub which-true : (m : ℕ) (f : Form m) → f ≡ constant m true → True ≡ whichConstant m f
@@ -104,8 +104,8 @@ module _ (m : ℕ) (f : Form m) (row : List ℕ) (few : m ≤ 12) (e : row ≡ p
       which-open m f
       (λ q.
       false≢true
-      (sym (ne-eqb 0 k (λ z. omega (arith, next .low (omega arith)))) ∙ sym (bit-true m k) ∙ has-it q))
-      (λ q. false≢true (sym (bit-false m k) ∙ has-it q))
+      (sym (ne-eqb 0 k (λ z. omega (arith, next .low (omega arith)))) ∙ sym (bitOf-true m k) ∙ has-it q))
+      (λ q. false≢true (sym (bitOf-false m k) ∙ has-it q))
     where
       has-it : {g : Form m} → f ≡ g → bitOf m g k ≡ true
       has-it q = ap (λ x. bitOf m x k) (sym q) ∙ sym (row-bit k h) ∙ next .here h
@@ -131,8 +131,8 @@ module _ (m : ℕ) (f : Form m) (row : List ℕ) (few : m ≤ 12) (e : row ≡ p
         which-false m f (pack-inj m f (constant m false) few (sym e ∙ pack-is m (constant m false) row row-words bits))
       where
         bits : (l : ℕ) → l < 4096 → bitAt row l ≡ bitOf m (constant m false) l
-        bits zero b = first .none 0 (omega arith) (omega arith) ∙ sym (bit-false m 0)
-        bits (suc l) b = others (suc l) (omega arith) b ∙ sym (bit-false m (suc l))
+        bits zero b = first .none 0 (omega arith) (omega arith) ∙ sym (bitOf-false m 0)
+        bits (suc l) b = others (suc l) (omega arith) b ∙ sym (bitOf-false m (suc l))
 
 -- every row of 64 words is one of a form over 12 parameters or more
 pub fits-wide : (m : ℕ) (ws : List ℕ) → length ws ≡ 64 → 12 ≤ m → true ≡ fits m ws

@@ -6,8 +6,8 @@ use Prim.Native.Nat.{ℕ, _≤_}
 use Rattle.forms.specs.Form.{Form, constant, putIn, same}
 use Rattle.forms.specs.Words.{pack}
 use Rattle.forms.specs.Area.{formIn, Holds}
-use Rattle.forms.specs.declared.Truth.{Truth}
-use Rattle.forms.specs.declared.Truth.the-variants.{True, False, Open}
+use Rattle.forms.specs.declared.rows.Truth.{Truth}
+use Rattle.forms.specs.declared.rows.Truth.the-variants.{True, False, Open}
 
 -- the answer is the row's form's
 abbrev pub OfForm : {A : Type 0} → ((m : ℕ) → Form m → A) → List ℕ → A → Type 0

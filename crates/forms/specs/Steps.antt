@@ -9,7 +9,7 @@ use Rattle.ground.specs.Fold.{_⊕_, parity}
 use Rattle.ground.specs.Bits.{bit, bitAt, Words}
 use Rattle.forms.specs.Form.{Form, xor, putIn, truth, each}
 use Rattle.forms.specs.Words.{most, pack, ofTerms}
-use Rattle.forms.specs.Area.{rowAt}
+use Rattle.forms.specs.Area.{rowAt, formIn, Holds}
 
 -- r is the first term of the row from `from` on and before `to`, or `to` where there is none
 pub record Next (row : List ℕ) (from to r : ℕ) : Type 0 where
@@ -60,3 +60,12 @@ Mixed a p b r =
 abbrev pub PutTerms : List ℕ → List ℕ → ℕ → ℕ → List ℕ → Type 0
 PutTerms row ts p k r =
     (σ : ℕ → Form most) → Tables ts p σ → r ≡ pack most (truth most (putIn p most (ofTerms p (bitAt row) k) σ))
+
+-- r holds the truth values of form j of the count rows of the area from base on
+abbrev pub TableAt : List ℕ → ℕ → ℕ → ℕ → List ℕ → Type 0
+TableAt ws base count j r =
+    (rows : List (Form most)) → Holds most ws base count rows → r ≡ pack most (truth most (formIn most rows j))
+
+-- ts holds the truth values of the first twelve of them
+abbrev pub TablesOf : List ℕ → ℕ → ℕ → List ℕ → Type 0
+TablesOf ws base count ts = (rows : List (Form most)) → Holds most ws base count rows → Tables ts 12 (formIn most rows)

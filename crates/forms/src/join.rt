@@ -1,11 +1,13 @@
-// Joining a term with the terms of a row.
+// Joining two rows, term against term.
 use crate::scan::next_term;
 ghost use Prim.Native.Nat.{_<_};
 ghost use Rattle.ground.specs.Bits.{Words};
+ghost use Rattle.forms.specs.Form.{and as andOf};
+ghost use Rattle.forms.specs.Rows.{OfForms};
 ghost use Rattle.forms.specs.Steps.{Joined};
 
 // Term i with each term of b, added to r: the union of the two is turned over.
-pub(crate) fn join_term(r: &mut [u64; 64], b: &[u64; 64], i: usize)
+fn join_term(r: &mut [u64; 64], b: &[u64; 64], i: usize)
     requires { ⌜ (i < 4096) × Words 64 (now r) ⌝ }
     ensures { λ _. ⌜ Joined (now (r .entry)) (now (b .entry)) i (now (r .exit)) ⌝ }
 {
@@ -15,4 +17,17 @@ pub(crate) fn join_term(r: &mut [u64; 64], b: &[u64; 64], i: usize)
         r[k / 64] = r[k / 64] ^ (1 << (k % 64));
         j = next_term(b, j + 1, 4096);
     }
+}
+
+// The row of the conjunction: term against term, passing over absent terms.
+pub fn and(a: [u64; 64], b: [u64; 64]) -> [u64; 64]
+    ensures { λ r. ⌜ OfForms andOf a b r ⌝ }
+{
+    let mut r = [0u64; 64];
+    let mut i = next_term(&a, 0, 4096);
+    while i < 4096 {
+        join_term(&mut r, &b, i);
+        i = next_term(&a, i + 1, 4096);
+    }
+    r
 }

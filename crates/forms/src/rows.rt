@@ -1,6 +1,5 @@
 // Rows of forms: made, joined and read.
-use crate::Truth;
-use crate::and;
+use crate::join::and;
 use crate::scan::next_term;
 ghost use mathlib.Core.Path.{_≡_};
 ghost use Prim.Native.Nat.{ℕ, _<_};
@@ -10,6 +9,13 @@ ghost use Rattle.forms.specs.Form.{xor as xorOf, or as orOf, names as na
 ghost use Rattle.forms.specs.Words.{pack, fits as fitsOf};
 ghost use Rattle.forms.specs.Rows.{OfForm, OfForms, whichConstant};
 ghost use Rattle.forms.specs.Steps.{Alone};
+
+// Which constant a form is, if any.
+pub enum Truth {
+    False,
+    True,
+    Open,
+}
 
 // The row of term k alone.
 fn alone(k: usize) -> [u64; 64]

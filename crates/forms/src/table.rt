@@ -1,13 +1,15 @@
 // The truth values of a row, and putting rows in by them.
+use crate::area::load;
+use crate::area::store;
 use crate::scan::next_term;
 ghost use mathlib.Core.Path.{_≡_};
-ghost use mathlib.Core.List.{List};
-ghost use Prim.Native.Nat.{ℕ, _+_, _*_, _^_, _≤_, _<_};
-ghost use Rattle.ground.specs.Bits.{bitAt};
-ghost use Rattle.forms.specs.Form.{Form, truth, xor, each, putIn};
-ghost use Rattle.forms.specs.Words.{most, pack, ofTerms};
-ghost use Rattle.forms.specs.Area.{rowAt, formIn, Holds};
-ghost use Rattle.forms.specs.Steps.{PassedWord, Passed, Mixed, Tables, PutTerms};
+ghost use Prim.Native.Nat.{_+_, _^_, _≤_, _<_};
+ghost use Rattle.ground.specs.Bits.{bit};
+ghost use Rattle.forms.specs.Form.{Form, truth, value as valueOf};
+ghost use Rattle.forms.specs.Words.{most, pack};
+ghost use Rattle.forms.specs.Area.{rowAt};
+ghost use Rattle.forms.specs.Rows.{OfForm, WithRows};
+ghost use Rattle.forms.specs.Steps.{PassedWord, Passed, Mixed, PutTerms, TableAt, TablesOf};
 
 // The bits of a word whose number lacks parameter p.
 const MASKS: [u64; 6] = [
@@ -90,4 +92,48 @@ fn put_terms(row: &[u64; 64], tables: &[u64; 768], p: usize, k: usize) -> [u64; 
     let a = put_terms(row, tables, q, k);
     let b = put_terms(row, tables, q, k + half);
     mix(a, tables, q, b)
+}
+
+// The truth values of row j of the count rows from base on; false from count on.
+fn table_at(area: &[u64], base: usize, count: usize, j: usize) -> [u64; 64]
+    requires { ⌜ j < 12 ⌝ }
+    ensures { λ r. ⌜ TableAt (now (area .entry)) base count j r ⌝ }
+{
+    if count <= j {
+        return [0u64; 64];
+    }
+    if area.len() < base {
+        return [0u64; 64];
+    }
+    truth_of(load(area, base + j))
+}
+
+// The truth values of the first twelve of the count rows from base on, and of false behind them.
+fn tables(area: &[u64], base: usize, count: usize) -> [u64; 768]
+    ensures { λ r. ⌜ TablesOf (now (area .entry)) base count r ⌝ }
+{
+    let mut ts = [0u64; 768];
+    for j in 0..12 {
+        let t = table_at(area, base, count, j);
+        store(&mut ts, j, t);
+    }
+    ts
+}
+
+// The row's form with the count rows of the area from base on put in for its parameters, and false for the others.
+pub fn put_in(row: [u64; 64], area: &[u64], base: usize, count: usize) -> [u64; 64]
+    ensures { λ r. ⌜ WithRows row (now (area .entry)) base count r ⌝ }
+{
+    let ts = tables(area, base, count);
+    let v = put_terms(&row, &ts, 12, 0);
+    truth_of(v)
+}
+
+// The value of the row's form where parameter j is true exactly if bit j of the setting is set.
+pub fn value(row: [u64; 64], setting: usize) -> bool
+    ensures { λ r. ⌜ OfForm (λ m f. valueOf m f (bit setting)) row r ⌝ }
+{
+    let k = setting % 4096;
+    let t = truth_of(row);
+    (t[k / 64] >> (k % 64)) % 2 == 1
 }

@@ -10,8 +10,8 @@ use Rattle.ground.specs.Fold.{parity}
 use Rattle.ground.specs.Bits.{bitAt}
 use Rattle.ground.proofs.Numbers.{zero-words, zero-bit}
 use Rattle.forms.proofs.Joining.{Adding, adding-first, adding-more, adding-done, joined-and}
-use Rattle.forms.proofs.and.Statement.{statement}
-use Rattle.forms.proofs.and.Tie as tie
+use Rattle.forms.proofs.join.and.Statement.{statement}
+use Rattle.forms.proofs.join.and.Tie as tie
 
 abbrev Inv-loop : tie.InvT-loop
 Inv-loop a b r₀ i₀ r i = Adding a (λ l. false) (λ x l. parity 4096 (λ j. bitAt b j && eqb (bitOr x j) l)) r i

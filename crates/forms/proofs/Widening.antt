@@ -1,0 +1,127 @@
+-- Rows of an area put into a form: over the most parameters, and so over fewer.
+-- Assumes nothing.
+use mathlib.Core.Path.{_≡_, refl, sym, ap, ap₂, _∙_, subst}
+use mathlib.Core.Bool.{Bool, true, false}
+use mathlib.Core.Logic.{inl}
+use mathlib.Core.List.{List, map}
+use Prim.Native.Nat.{ℕ, suc, _+_, _*_, _%_, _^_, _≤_, _<_}
+use native.Mathlib.Nat.{add-zero, le-trans}
+use native.Mathlib.Omega.{arith}
+use borrow.Author.Count.{below-more}
+use lib.ListN.{length, getD, replicate, length-map, List·getD-map, List·getD-eq-default}
+use Rattle.ground.specs.Fold.{tab}
+use Rattle.ground.specs.Bits.{bit, bitAt, Words}
+use Rattle.ground.proofs.Tabs.{length-tab, getD-tab}
+use Rattle.ground.proofs.Bits.{bit-low}
+use Rattle.ground.proofs.Numbers.{zero-at}
+use Rattle.forms.specs.Form.{Form, constant, putIn, seen, value, truth}
+use Rattle.forms.specs.Words.{most, bitOf, pack, unpack, ofTerms}
+use Rattle.forms.specs.Area.{rowAt, putRows, formIn, Holds}
+use Rattle.forms.specs.Rows.{WithRows}
+use Rattle.forms.specs.Steps.{Tables, PutTerms, TableAt, TablesOf}
+use Rattle.forms.proofs.Values.{value-agree, value-putIn, canonical}
+use Rattle.forms.proofs.Depends.{putIn-constant}
+use Rattle.forms.proofs.Truths.{has-truth, truth-truth, truth-false}
+use Rattle.forms.proofs.Document.{bitOf-low}
+use Rattle.forms.proofs.Packing.{pack-words, bit-pack, unpack-pack, pack-inj, pack-false, value-seen, pack-seen, most-is, most-few, most-wide}
+use Rattle.forms.proofs.Areas.{row-at, row-put, row-kept, length-putRows, row-past}
+
+-- no row there, or one of zeros: false
+pub table-none : (ws : List ℕ) (base count j : ℕ) → count ≤ j → TableAt ws base count j (replicate 64 0)
+table-none ws base count j h rows holds =
+    pack-false most
+    ∙ ap (pack most) (sym (truth-false most)
+    ∙ ap (truth most) (sym (List·getD-eq-default rows (constant most false) (let e : length rows ≤ j = omega (arith, holds .long) in e))))
+
+pub table-past : (ws : List ℕ) (base count j : ℕ) → j < count → length ws < base + j → TableAt ws base count j (replicate 64 0)
+table-past ws base count j h l rows holds =
+    pack-false most ∙ ap (pack most) (sym (truth-false most) ∙ ap (truth most) (sym none))
+  where
+    none : formIn most rows j ≡ constant most false
+    none =
+        pack-inj most (formIn most rows j) (constant most false) most-few
+        (sym (holds .row j h) ∙ row-past ws (base + j) (omega arith) ∙ pack-false most)
+
+pub table-here : (ws : List ℕ) (base count j : ℕ) (row r : List ℕ) → j < count → row ≡ rowAt ws (base + j)
+    → ((f : Form most) → row ≡ pack most f → r ≡ pack most (truth most f)) → TableAt ws base count j r
+table-here ws base count j row r h e made rows holds = made (formIn most rows j) (e ∙ holds .row j h)
+
+-- one table more
+pub tables-more : (ts ts′ t : List ℕ) (j : ℕ) (σ : ℕ → Form most) → length ts ≡ 768 → j < 12
+    → t ≡ pack most (truth most (σ j)) → ts′ ≡ putRows ts j 1 (λ _. t) → Tables ts j σ → Tables ts′ (j + 1) σ
+tables-more ts ts′ t j σ long h e put sofar =
+    below-more (λ i. rowAt ts′ i ≡ pack most (truth most (σ i))) j
+    (λ i l. ap (λ x. rowAt x i) put ∙ row-kept ts j 1 (λ _. t) i (inl l) ∙ sofar i l)
+    (ap₂ rowAt put (sym (add-zero j))
+    ∙ row-put ts j 1 (λ _. t) 0 (omega arith) (omega arith) (ap length e ∙ pack-words most (truth most (σ j)) .long) ∙ e)
+
+-- over the most parameters
+put-most : (row v r ts ws : List ℕ) (base count : ℕ) → TablesOf ws base count ts → PutTerms row ts 12 0 v
+    → ((f : Form most) → v ≡ pack most f → r ≡ pack most (truth most f)) → (f : Form most) (rows : List (Form most))
+    → row ≡ pack most f → Holds most ws base count rows → r ≡ pack most (putIn most most f (formIn most rows))
+unfolding unpack
+put-most row v r ts ws base count tables put back f rows e holds =
+    back (truth most g) (made ∙ ap (λ x. pack most (truth most (putIn most most x (formIn most rows)))) whole)
+    ∙ ap (pack most) (truth-truth most g)
+  where
+    g : Form most
+    g = putIn most most f (formIn most rows)
+
+    whole : ofTerms most (bitAt row) 0 ≡ f
+    whole = ap (unpack most) e ∙ unpack-pack most f most-few
+
+    made : v ≡ pack most (truth most (putIn most most (ofTerms most (bitAt row) 0) (formIn most rows)))
+    made =
+        subst (λ p. v ≡ pack most (truth most (putIn p most (ofTerms p (bitAt row) 0) (formIn most rows)))) (sym most-is)
+        (put (formIn most rows) (tables rows holds))
+
+-- a list of forms over m, seen over the most
+module _ (m : ℕ) (few : m ≤ 12) where
+  fits : m ≤ most
+  fits = subst (λ x. m ≤ x) (sym most-is) few
+
+  wider : List (Form m) → List (Form most)
+  wider rows = map (seen m most) rows
+
+  wider-at : (rows : List (Form m)) (j : ℕ) → formIn most (wider rows) j ≡ seen m most (formIn m rows j)
+  unfolding wider seen
+  wider-at rows j =
+      ap (getD (map (seen m most) rows) j) (sym (putIn-constant m most false _)) ∙ List·getD-map (seen m most) rows j (constant m false)
+
+  wider-holds : (ws : List ℕ) (base count : ℕ) (rows : List (Form m)) → Holds m ws base count rows → Holds most ws base count (wider rows)
+  unfolding wider
+  wider-holds ws base count rows holds = record {
+    long = length-map rows (seen m most) ∙ holds .long;
+    row = λ j h.
+        holds .row j h ∙ pack-seen m most (formIn m rows j) fits ∙ ap (pack most) (sym (wider-at rows j));
+  }
+
+  putIn-wider : (f : Form m) (rows : List (Form m))
+      → putIn most most (seen m most f) (formIn most (wider rows)) ≡ seen m most (putIn m m f (formIn m rows))
+  putIn-wider f rows =
+      canonical most (putIn most most (seen m most f) (formIn most (wider rows))) (seen m most (putIn m m f (formIn m rows)))
+      (λ ρ.
+      value-putIn most most (seen m most f) (formIn most (wider rows)) ρ
+      ∙ value-seen m most f (λ j. value most (formIn most (wider rows) j) ρ) fits
+      ∙ value-agree m f (λ j. value most (formIn most (wider rows) j) ρ) (λ j. value m (formIn m rows j) ρ)
+      (λ j h. ap (λ x. value most x ρ) (wider-at rows j) ∙ value-seen m most (formIn m rows j) ρ fits)
+      ∙ sym (value-seen m most (putIn m m f (formIn m rows)) ρ fits ∙ value-putIn m m f (formIn m rows) ρ))
+
+-- and so over fewer
+pub put-rows : (row v r ts ws : List ℕ) (base count : ℕ) → TablesOf ws base count ts → PutTerms row ts 12 0 v
+    → ((f : Form most) → v ≡ pack most f → r ≡ pack most (truth most f)) → WithRows row ws base count r
+put-rows row v r ts ws base count tables put back m f rows few e holds =
+    put-most row v r ts ws base count tables put back (seen m most f) (wider m few rows)
+    (e ∙ pack-seen m most f (fits m few)) (wider-holds m few ws base count rows holds)
+    ∙ ap (pack most) (putIn-wider m few f rows) ∙ sym (pack-seen m most (putIn m m f (formIn m rows)) (fits m few))
+
+-- a bit of the truth values is the form's value
+pub value-here : (row t : List ℕ) (s : ℕ) → ((f : Form most) → row ≡ pack most f → t ≡ pack most (truth most f))
+    → (m : ℕ) (f : Form m) → m ≤ 12 → row ≡ pack m f → bitAt t (s % 4096) ≡ value m f (bit s)
+value-here row t s made m f few e =
+    let k : ℕ = s % 4096 in
+    let h : k < 4096 = omega arith in
+    ap (λ x. bitAt x k) (made (seen m most f) (e ∙ pack-seen m most f (fits m few)))
+    ∙ bit-pack most (truth most (seen m most f)) k h ∙ bitOf-low most (truth most (seen m most f)) k (le-trans h most-wide)
+    ∙ has-truth most (seen m most f) (bit k) ∙ value-seen m most f (bit k) (fits m few)
+    ∙ value-agree m f (bit k) (bit s) (λ j l. bit-low s 12 j (omega arith))
