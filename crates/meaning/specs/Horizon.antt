@@ -1,0 +1,42 @@
+-- How long a rule can stay open (document 01, "What a rule means").
+use mathlib.Core.List.{List, [], _∷_, _++_}
+use Prim.Native.Nat.{ℕ, zero, suc, _+_, _-_, max}
+use lib.ListN.{length, getD}
+use Rattle.meaning.specs.Interval.{Interval, between, onward}
+use Rattle.meaning.specs.Rule.{Node, fixed, signal, both, either, next, until, previous, since, nodeAt}
+
+-- a number of minutes, or none
+pub data Horizon : Type 0 where
+  within : ℕ → Horizon
+  never : Horizon
+
+unfoldable pub larger : Horizon → Horizon → Horizon
+larger (within a) (within b) = within (max a b)
+larger (within a) never = never
+larger never b = never
+
+-- high more; with no upper end there is none
+unfoldable pub later : Interval → Horizon → Horizon
+later (between low high) (within a) = within (high + a)
+later (between low high) never = never
+later (onward low) a = never
+
+-- a record's horizon, given those of the earlier records
+unfoldable pub horizonOf : List Horizon → Node → Horizon
+horizonOf earlier (fixed b) = within 0
+horizonOf earlier (signal s) = within 0
+horizonOf earlier (both l r) = larger (getD earlier l never) (getD earlier r never)
+horizonOf earlier (either l r) = larger (getD earlier l never) (getD earlier r never)
+horizonOf earlier (next l v) = later v (getD earlier l never)
+horizonOf earlier (until l r v) = later v (larger (getD earlier l never) (getD earlier r never))
+horizonOf earlier (previous l v) = getD earlier l never
+horizonOf earlier (since l r v) = larger (getD earlier l never) (getD earlier r never)
+
+-- the horizons of the first k records
+unfoldable pub horizons : List Node → ℕ → List Horizon
+horizons rule zero = []
+horizons rule (suc k) = let earlier = horizons rule k in earlier ++ (horizonOf earlier (nodeAt rule k) ∷ [])
+
+-- the rule's horizon is its last record's
+unfoldable pub horizon : List Node → Horizon
+horizon rule = getD (horizons rule (length rule)) (length rule - 1) never
