@@ -1,2 +1,3 @@
 pub mod Blocks
 pub mod Intervals
+pub mod Agreement
