@@ -1,3 +1,4 @@
 pub mod Blocks
 pub mod Intervals
 pub mod Agreement
+pub mod Ranges
