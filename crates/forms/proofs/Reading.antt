@@ -69,6 +69,25 @@ same-not m f g h = go (same m f g) refl
 pub constants-differ : (m : ℕ) → constant m false ≡ constant m true → ⊥
 constants-differ m e = false≢true (sym (bitOf-false m 0) ∙ ap (λ f. bitOf m f 0) e ∙ bitOf-true m 0)
 
+-- a form that is found to be a constant is it
+pub which-is-true : (m : ℕ) (f : Form m) → whichConstant m f ≡ True → f ≡ constant m true
+unfolding whichConstant
+which-is-true m f e = go (same m f (constant m true)) (same m f (constant m false)) refl e
+  where
+    go : (a b : Bool) → same m f (constant m true) ≡ a → cond a True (cond b False Open) ≡ True → f ≡ constant m true
+    go true b q e = same-eq m f (constant m true) q
+    go false true q e = let z : _≡_ {A = ℕ} 0 1 = cc in let n : ⊥ = omega arith in absurd n
+    go false false q e = let z : _≡_ {A = ℕ} 0 1 = cc in let n : ⊥ = omega arith in absurd n
+
+pub which-is-false : (m : ℕ) (f : Form m) → whichConstant m f ≡ False → f ≡ constant m false
+unfolding whichConstant
+which-is-false m f e = go (same m f (constant m true)) (same m f (constant m false)) refl e
+  where
+    go : (a b : Bool) → same m f (constant m false) ≡ b → cond a True (cond b False Open) ≡ False → f ≡ constant m false
+    go true b q e = let z : _≡_ {A = ℕ} 0 1 = cc in let n : ⊥ = omega arith in absurd n
+    go false true q e = same-eq m f (constant m false) q
+    go false false q e = let z : _≡_ {A = ℕ} 0 1 = cc in let n : ⊥ = omega arith in absurd n
+
 -- a form that is true, that is false, and that is neither
 pub which-true : (m : ℕ) (f : Form m) → f ≡ constant m true → True ≡ whichConstant m f
 unfolding whichConstant

@@ -118,8 +118,10 @@ module _ (log : List Entry) (rule : List Node) (ordered : Ordered rule) (m : ℕ
     where
       forms : List (Form m)
       forms = formsOf m rule k
+
       here : Form m
       here = formOf m (formsOf m rule k) (firstOf rule k) (nodeAt rule k)
+
       go : ((r : ℕ) → r < k → value m (formIn m (formsOf m rule k) r) ρ ≡ recordValue log rule k r i) → Dec (r < k)
           → value m (formIn m (formsOf m rule (suc k)) r) ρ ≡ recordValue log rule (suc k) r i
       go ih (yes l) =

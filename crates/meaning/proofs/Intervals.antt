@@ -51,8 +51,10 @@ inside-moved (between low high) n here mid other h amid = go (leb (n + g) high) 
   where
     g : ℕ
     g = distance here mid
+
     e : distance here other ≡ distance mid other + distance here mid
     e = distance-amid here mid other amid
+
     go : (b : Bool) → leb (n + distance here mid) high ≡ b
         → (leb (low - n) (distance here other) && leb (distance here other) (high - n))
         ≡ movedTo (λ w. inside w mid other) (between low high) (cond b (to (n + distance here mid)) gone)

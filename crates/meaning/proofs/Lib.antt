@@ -6,3 +6,5 @@ pub mod Unrolling
 pub mod RowsRight
 pub mod DerivedRight
 pub mod PastRight
+pub mod Following
+pub mod Theorems

@@ -65,6 +65,7 @@ module _ (log : List Entry) (rising : Rising log) (rule : List Node) (ordered : 
     where
       left : ℕ → Bool
       left = getD (values log rule k) l (λ j. false)
+
       right : ℕ → Bool
       right = getD (values log rule k) r (λ j. false)
 

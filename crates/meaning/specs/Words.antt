@@ -45,6 +45,10 @@ module _ (m : ℕ) (rule : List Node) where
   fed s [] = s
   fed s (e ∷ es) = fed (feed s e) es
 
+  -- what is known after the records e, es
+  unfoldable pub after : Entry → List Entry → Known m
+  after e es = fed (first e) es
+
 pub data Word : Type 0 where
   kept broken pending : Word
 
