@@ -8,3 +8,6 @@ pub mod DerivedRight
 pub mod PastRight
 pub mod Following
 pub mod Theorems
+pub mod Waits
+pub mod Rewriteable
+pub mod NotRewriteable
