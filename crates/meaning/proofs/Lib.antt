@@ -1,2 +1,4 @@
 pub mod Blocks
 pub mod Shapes
+pub mod Reach
+pub mod Whole
