@@ -10,7 +10,7 @@ use native.Mathlib.Omega.{arith}
 use lib.Dec.{leb}
 use lib.ListN.{length}
 use borrow.Author.Tests.{leb-true}
-use Rattle.forms.specs.Form.{Form, constant, parameter, and, or, DependsOn}
+use Rattle.forms.specs.Form.{Form, constant, parameter, DependsOn}
 use Rattle.forms.specs.Area.{formIn}
 use Rattle.forms.proofs.Depends.{depends-constant, depends-parameter, depends-xor, depends-and, depends-or}
 use Rattle.forms.proofs.Depends.{depends-putIn}
@@ -22,7 +22,7 @@ use Rattle.meaning.specs.Rewriting.{Neighbour, none, at, put, onlyIf, fo
 use Rattle.meaning.specs.Rewriting.{nextRow, untilLater, derivedRow, derivedRows}
 use Rattle.meaning.proofs.Blocks.{one-low, one-new, firstOf-more, firstOf-mono, Place, place}
 use Rattle.meaning.proofs.Blocks.{Rows, rows-none, rows-more, length-formsOf, length-derivedRows}
-use Rattle.meaning.proofs.Shapes.{Future, FutureBefore, depends-onlyIf, depends-grows, depends-put}
+use Rattle.meaning.proofs.Shapes.{Future, depends-onlyIf, depends-grows, depends-put}
 
 -- a moved shift is gone, or one of the interval's shifts
 pub moved-cases : (P : Moved → Type 0) (v : Interval) (n here other : ℕ) → P gone
@@ -47,11 +47,6 @@ Below rule k q = q < firstOf rule k
 
 pub below-grows : (rule : List Node) (k l q : ℕ) → k ≤ l → Below rule k q → Below rule l q
 below-grows rule k l q h b = omega (arith, firstOf-mono rule k l h)
-
-pub future-below : (rule : List Node) (k q : ℕ) → FutureBefore rule k q → Below rule k q
-future-below rule k q f =
-    let p = f .place in
-    omega (arith, p .less, p .here, firstOf-more rule (p .node), firstOf-mono rule (suc (p .node)) k (p .before))
 
 -- how many records' parameters a row of record k may name: the earlier records', and for next and until its own
 unfoldable pub reach : Node → ℕ → ℕ
@@ -91,7 +86,7 @@ abbrev pub LooksBack : List Node → (m : ℕ) → List (Form m) → ℕ → Typ
 LooksBack rule m rows K =
     Rows rule (constant m false) (λ k n f. DependsOn (Below rule (reach (nodeAt rule k) k)) m f) rows K
 
--- no rows do
+-- so does the empty list, whose rows are all false
 pub none-back : (rule : List Node) (m K : ℕ) → LooksBack rule m [] K
 none-back rule m K k n h c = depends-constant (Below rule (reach (nodeAt rule k) k)) m false
 
@@ -111,10 +106,35 @@ form-depends S m forms first k (until l r v) o all own = own (shifts-some v)
 form-depends S m forms first k (previous l v) o all own = own (omega arith)
 form-depends S m forms first k (since l r v) o all own = own (shifts-some v)
 
-module _ (rule : List Node) (ordered : Ordered rule) (m : ℕ) (fits : (k : ℕ) → firstOf rule k ≤ m) where
+module _ (rule : List Node) (m : ℕ) where
   back-grows : (k l : ℕ) (f : Form m) → k ≤ l → DependsOn (Below rule k) m f → DependsOn (Below rule l) m f
   back-grows = depends-grows rule m (Below rule) (below-grows rule)
 
+  -- with the rows of the first K records put in, any form names parameters of those records only
+  pub put-back : (f : Form m) (rows : List (Form m)) (K : ℕ) → length rows ≡ firstOf rule K → LooksBack rule m rows K
+      → DependsOn (Below rule K) m (put m f rows)
+  put-back f rows K long back =
+      depends-put rule m (Below rule) (below-grows rule) f rows K long
+      (λ k n h c.
+      back-grows (reach (nodeAt rule k) k) (suc k) (formIn m rows (firstOf rule k + n)) (reach-most (nodeAt rule k) k)
+      (back k n h c))
+
+  -- and a form that names only parameters of the first k of them still names no others
+  pub put-back-low : (f : Form m) (rows : List (Form m)) (k K : ℕ) → k ≤ K → LooksBack rule m rows K
+      → DependsOn (Below rule k) m f → DependsOn (Below rule k) m (put m f rows)
+  unfolding put
+  put-back-low f rows k K h back d =
+      depends-putIn (Below rule k) m m (Below rule k) f (formIn m rows) d (λ q l. go q (place rule k q l))
+    where
+      go : (q : ℕ) → Place rule k q → DependsOn (Below rule k) m (formIn m rows q)
+      go q p =
+          let j = p .node in
+          subst (λ x. DependsOn (Below rule k) m (formIn m rows x)) (p .here)
+          (back-grows (reach (nodeAt rule j) j) k (formIn m rows (firstOf rule j + p .shift))
+          (omega (arith, p .before, reach-most (nodeAt rule j) j))
+          (back j (p .shift) (omega (arith, p .before)) (p .less)))
+
+module _ (rule : List Node) (ordered : Ordered rule) (m : ℕ) (fits : (k : ℕ) → firstOf rule k ≤ m) where
   own-back : (k n : ℕ) → n < count (nodeAt rule k)
       → DependsOn (Below rule (suc k)) m (parameter m (firstOf rule k + n))
   own-back k n c =
@@ -126,7 +146,7 @@ module _ (rule : List Node) (ordered : Ordered rule) (m : ℕ) (fits : (k : ℕ)
   unfolding formsOf
   forms-back zero l h = let z : ⊥ = omega arith in absurd z
   forms-back (suc k) l h =
-      go (λ x b. back-grows k (suc k) (formIn m forms x) (omega arith) (forms-back k x b)) (decLt l k)
+      go (λ x b. back-grows rule m k (suc k) (formIn m forms x) (omega arith) (forms-back k x b)) (decLt l k)
     where
       forms : List (Form m)
       forms = formsOf m rule k
@@ -147,30 +167,6 @@ module _ (rule : List Node) (ordered : Ordered rule) (m : ℕ) (fits : (k : ℕ)
           (form-depends (Below rule (suc k)) m forms (firstOf rule k) k (nodeAt rule k) (ordered k) old
           (λ c. rw add-zero at (own-back k 0 c))))
 
-  -- with the rows of the first K records put in, any form names parameters of those records only
-  pub put-back : (f : Form m) (rows : List (Form m)) (K : ℕ) → length rows ≡ firstOf rule K → LooksBack rule m rows K
-      → DependsOn (Below rule K) m (put m f rows)
-  put-back f rows K long back =
-      depends-put rule m (Below rule) (below-grows rule) f rows K long
-      (λ k n h c.
-      back-grows (reach (nodeAt rule k) k) (suc k) (formIn m rows (firstOf rule k + n)) (reach-most (nodeAt rule k) k)
-      (back k n h c))
-
-  -- and a form that names those of the first k of them still does
-  pub put-back-low : (f : Form m) (rows : List (Form m)) (k K : ℕ) → k ≤ K → LooksBack rule m rows K
-      → DependsOn (Below rule k) m f → DependsOn (Below rule k) m (put m f rows)
-  unfolding put
-  put-back-low f rows k K h back d =
-      depends-putIn (Below rule k) m m (Below rule k) f (formIn m rows) d (λ q l. go q (place rule k q l))
-    where
-      go : (q : ℕ) → Place rule k q → DependsOn (Below rule k) m (formIn m rows q)
-      go q p =
-          let j = p .node in
-          subst (λ x. DependsOn (Below rule k) m (formIn m rows x)) (p .here)
-          (back-grows (reach (nodeAt rule j) j) k (formIn m rows (firstOf rule j + p .shift))
-          (omega (arith, p .before, reach-most (nodeAt rule j) j))
-          (back j (p .shift) (omega (arith, p .before)) (p .less)))
-
   module _ (past derived : List (Form m)) (e : Entry) (k : ℕ) (long : length derived ≡ firstOf rule k)
       (back : LooksBack rule m derived k) where
     next-back : (l : ℕ) (v : Interval) (here : ℕ) (later : Neighbour) → l < k
@@ -179,10 +175,10 @@ module _ (rule : List Node) (ordered : Ordered rule) (m : ℕ) (fits : (k : ℕ)
     next-back l v here none h = depends-constant (Below rule (suc k)) m false
     next-back l v here (at other) h =
         depends-onlyIf (Below rule (suc k)) m (inside v here other) (formIn m (formsOf m rule k) l)
-        (back-grows k (suc k) (formIn m (formsOf m rule k) l) (omega arith) (forms-back k l h))
+        (back-grows rule m k (suc k) (formIn m (formsOf m rule k) l) (omega arith) (forms-back k l h))
 
     put-now : (f : Form m) → DependsOn (Below rule (suc k)) m (put m f derived)
-    put-now f = back-grows k (suc k) (put m f derived) (omega arith) (put-back f derived k long back)
+    put-now f = back-grows rule m k (suc k) (put m f derived) (omega arith) (put-back rule m f derived k long back)
 
     later-back : (l : ℕ) (v : Interval) (n here : ℕ) (later : Neighbour)
         → ((i : ℕ) → i < shifts v → DependsOn (Below rule (suc k)) m (parameter m (firstOf rule k + i)))
@@ -212,8 +208,8 @@ module _ (rule : List Node) (ordered : Ordered rule) (m : ℕ) (fits : (k : ℕ)
         (untilLater m (formsOf m rule k) derived (firstOf rule k) l v n (e .time) later)
         (depends-onlyIf (Below rule (suc k)) m now right (put-now (formIn m (formsOf m rule k) r)))
         (later-back l v n (e .time) later own)
-    row-back later n (previous l v) o own = put-back (formIn m past (firstOf rule k + n)) derived k long back
-    row-back later n (since l r v) o own = put-back (formIn m past (firstOf rule k + n)) derived k long back
+    row-back later n (previous l v) o own = put-back rule m (formIn m past (firstOf rule k + n)) derived k long back
+    row-back later n (since l r v) o own = put-back rule m (formIn m past (firstOf rule k + n)) derived k long back
 
   -- derived rows look back, whatever the past rows are
   pub derived-back : (past : List (Form m)) (e : Entry) (later : Neighbour) (K : ℕ)

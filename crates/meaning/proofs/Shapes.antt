@@ -1,22 +1,25 @@
 -- The shape of past rows: what the row of each record is, or which parameters it names.
 -- Assumes nothing.
-use mathlib.Core.Path.{_≡_, refl, sym, subst}
-use mathlib.Core.Bool.{Bool, true, false}
-use mathlib.Core.List.{List}
+use mathlib.Core.Path.{_≡_, refl, sym, _∙_, subst}
+use mathlib.Core.Bool.{Bool, true, false, true≢false}
+use mathlib.Core.List.{List, [], _∷_}
 use Prim.Native.Nat.{ℕ, zero, suc, _+_, _≤_, _<_}
 use native.Mathlib.Decide.{decLt}
 use native.Mathlib.Omega.{arith}
 use lib.ListN.{length, List·getD-eq-default}
-use Rattle.forms.specs.Form.{Form, constant, parameter, and, or, DependsOn}
+use Rattle.forms.specs.Form.{Form, constant, parameter, DependsOn, names}
 use Rattle.forms.specs.Area.{formIn}
 use Rattle.forms.proofs.Values.{value-agree}
 use Rattle.forms.proofs.Depends.{depends-constant, depends-parameter, depends-and, depends-or, depends-putIn}
+use Rattle.forms.proofs.Depends.{depends-names, names-depends}
 use Rattle.meaning.specs.Interval.{Interval, inside, shifted, moved}
 use Rattle.meaning.specs.Rule.{Node, fixed, signal, both, either, next, until, previous, since}
 use Rattle.meaning.specs.Rule.{nodeAt, count, firstOf, Entry, holds}
 use Rattle.meaning.specs.Rewriting.{Neighbour, none, at, put, onlyIf, rowTo, formsOf}
-use Rattle.meaning.specs.Rewriting.{previousRow, sinceEarlier, pastRow, pastRows}
-use Rattle.meaning.proofs.Blocks.{firstOf-more, Place, place, Rows, rows-none, rows-more, length-pastRows}
+use Rattle.meaning.specs.Rewriting.{previousRow, sinceEarlier, pastRow, pastRows, derivedRows}
+use Rattle.meaning.specs.Words.{Known, first, feed, fed}
+use Rattle.meaning.proofs.Blocks.{firstOf-more, firstOf-mono, Place, place}
+use Rattle.meaning.proofs.Blocks.{Rows, rows-none, rows-more, length-pastRows}
 
 -- a next or until record
 unfoldable pub Future : Node → Type 0
@@ -34,8 +37,7 @@ pub record FutureBefore (rule : List Node) (k q : ℕ) : Type 0 where
   pub place : Place rule k q
   pub future : Future (nodeAt rule (place .node))
 
--- the past row of shift n of record k: a signal's is its constant, a next's or until's is itself, a previous's or
--- since's depends only on next and until parameters of earlier records
+-- a past row by its record: a signal's constant, a next or until itself, or of earlier next and until parameters only
 unfoldable pub RowShape : List Node → (m : ℕ) → Entry → (k n : ℕ) → Node → Form m → Type 0
 RowShape rule m e k n (fixed b) f = Unit {0}
 RowShape rule m e k n (signal s) f = f ≡ constant m (holds e s)
@@ -46,9 +48,15 @@ RowShape rule m e k n (until l r v) f = f ≡ parameter m (firstOf rule k + n)
 RowShape rule m e k n (previous l v) f = DependsOn (FutureBefore rule k) m f
 RowShape rule m e k n (since l r v) f = DependsOn (FutureBefore rule k) m f
 
--- the rows of the first K records have that shape
+-- the rows of the first K records have that shape, however they were made
 abbrev pub Shaped : List Node → (m : ℕ) → Entry → List (Form m) → ℕ → Type 0
 Shaped rule m e rows K = Rows rule (constant m false) (λ k n f. RowShape rule m e k n (nodeAt rule k) f) rows K
+
+-- such a parameter is one of the first k records'
+pub future-below : (rule : List Node) (k q : ℕ) → FutureBefore rule k q → q < firstOf rule k
+future-below rule k q f =
+    let p = f .place in
+    omega (arith, p .less, p .here, firstOf-more rule (p .node), firstOf-mono rule (suc (p .node)) k (p .before))
 
 -- a form if a test passes depends on what the form does
 pub depends-onlyIf : (S : ℕ → Type 0) (m : ℕ) (b : Bool) (f : Form m) → DependsOn S m f → DependsOn S m (onlyIf m b f)
@@ -97,6 +105,44 @@ decFuture (next l v) = yes tt
 decFuture (until l r v) = yes tt
 decFuture (previous l v) = no (λ u. u)
 decFuture (since l r v) = no (λ u. u)
+
+-- a parameter has one record
+pub place-one : (rule : List Node) (k q : ℕ) (p r : Place rule k q) → p .node ≡ r .node
+place-one rule k q p r = go (decLt (p .node) (r .node)) (decLt (r .node) (p .node))
+  where
+    apart : (p r : Place rule k q) → p .node < r .node → ⊥
+    apart p r h =
+        omega
+        (arith, p .less, p .here, r .here, firstOf-more rule (p .node), firstOf-mono rule (suc (p .node)) (r .node) h)
+
+    go : Dec (p .node < r .node) → Dec (r .node < p .node) → p .node ≡ r .node
+    go (yes h) g = absurd (apart p r h)
+    go (no h) (yes g) = absurd (apart r p g)
+    go (no h) (no g) = omega arith
+
+pub decFutureBefore : (rule : List Node) (k q : ℕ) → Dec (FutureBefore rule k q)
+decFutureBefore rule k q = go (decLt q (firstOf rule k))
+  where
+    at-place : (p : Place rule k q) → Dec (Future (nodeAt rule (p .node))) → Dec (FutureBefore rule k q)
+    at-place p (yes u) = yes (record { place = p; future = u })
+    at-place p (no u) =
+        no (λ f. u (subst (λ x. Future (nodeAt rule x)) (place-one rule k q (f .place) p) (f .future)))
+
+    go : Dec (q < firstOf rule k) → Dec (FutureBefore rule k q)
+    go (yes l) = let p = place rule k q l in at-place p (decFuture (nodeAt rule (p .node)))
+    go (no l) = no (λ f. l (future-below rule k q f))
+
+-- a form depends only on next and until parameters of the first k records if it names no others, and only then
+module _ (rule : List Node) (k m : ℕ) (f : Form m) where
+  pub depends-future : ((j : ℕ) → names m f j ≡ true → FutureBefore rule k j) → DependsOn (FutureBefore rule k) m f
+  depends-future h = λ ρ ρ′ a. depends-names m f ρ ρ′ (λ j t. a j (h j t))
+
+  pub names-future : DependsOn (FutureBefore rule k) m f → (j : ℕ) → names m f j ≡ true → FutureBefore rule k j
+  names-future d j t = go (decFutureBefore rule k j)
+    where
+      go : Dec (FutureBefore rule k j) → FutureBefore rule k j
+      go (yes u) = u
+      go (no u) = absurd (true≢false (sym t ∙ names-depends (FutureBefore rule k) m f d j u))
 
 module _ (rule : List Node) (m : ℕ) (e : Entry) (k n : ℕ) where
   future-row : (d : Node) (f : Form m) → Future d → RowShape rule m e k n d f → f ≡ parameter m (firstOf rule k + n)
@@ -214,3 +260,23 @@ module _ (rule : List Node) (m : ℕ) (fits : (k : ℕ) → firstOf rule k ≤ m
       (pastRow m (formsOf m rule K) derived past e before (firstOf rule K) (nodeAt rule K)) K long
       (past-shape derived before K)
       (λ n c. row-shape (formsOf m rule K) derived past K long (past-shape derived before K) before n (nodeAt rule K))
+
+-- so have those that are known after each record of a log
+abbrev pub KnownShape : List Node → (m : ℕ) → Known m → Type 0
+KnownShape rule m s = Shaped rule m (s .last) (s .past) (length rule)
+
+module _ (rule : List Node) (m : ℕ) (fits : (k : ℕ) → firstOf rule k ≤ m) where
+  pub first-shape : (e : Entry) → KnownShape rule m (first m rule e)
+  unfolding first
+  first-shape e = past-shape rule m fits e [] none (length rule)
+
+  pub feed-shape : (s : Known m) (e : Entry) → KnownShape rule m (feed m rule s e)
+  unfolding feed
+  feed-shape s e =
+      past-shape rule m fits e (derivedRows m rule (s .past) (s .last) (at (e .time)) (length rule))
+      (at (s .last .time)) (length rule)
+
+  pub fed-shape : (s : Known m) (es : List Entry) → KnownShape rule m s → KnownShape rule m (fed m rule s es)
+  unfolding fed
+  fed-shape s [] h = h
+  fed-shape s (e ∷ es) h = fed-shape (feed m rule s e) es (feed-shape s e)

@@ -17,9 +17,8 @@ use Rattle.meaning.specs.Rewriting.{nextRow, untilLater, derivedRow, der
 use Rattle.meaning.specs.Rewriting.{previousRow, sinceEarlier, pastRow, pastRows}
 use Rattle.meaning.proofs.Blocks.{one-low, block-low, block-new, firstOf-more, firstOf-mono}
 use Rattle.meaning.proofs.Blocks.{length-formsOf, length-derivedRows, length-pastRows}
-use Rattle.meaning.proofs.Shapes.{Future, Shaped, shaped-past}
-use Rattle.meaning.proofs.Reach.{moved-cases, Below, future-below, reach-past}
-use Rattle.meaning.proofs.Reach.{LooksBack, forms-back, put-back-low}
+use Rattle.meaning.proofs.Shapes.{Future, Shaped, future-below, shaped-past}
+use Rattle.meaning.proofs.Reach.{moved-cases, Below, reach-past, LooksBack, forms-back, put-back-low}
 
 module _ (m : ℕ) (rule : List Node) where
   -- the tables of more records begin with those of fewer
@@ -195,7 +194,7 @@ module _ (rule : List Node) (ordered : Ordered rule) (m : ℕ) (fits : (k : ℕ)
       (λ l b. same (formIn m forms l) (form-back l b) ∙ ap (λ f. put m f all) (known l b))
       (λ l b.
       same (put m (formIn m forms l) derived)
-      (put-back-low rule ordered m fits (formIn m forms l) derived k K (omega arith) back (form-back l b))
+      (put-back-low rule m (formIn m forms l) derived k K (omega arith) back (form-back l b))
       ∙ ap (λ f. put m (put m f derived) all) (known l b))
       e before (firstOf rule k) n (nodeAt rule k) (ordered k)
       (λ u i b.
