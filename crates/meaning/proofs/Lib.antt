@@ -11,3 +11,6 @@ pub mod Theorems
 pub mod Waits
 pub mod Rewriteable
 pub mod NotRewriteable
+pub mod Shapes
+pub mod Reach
+pub mod Whole
