@@ -18,8 +18,9 @@ use Rattle.meaning.specs.Rewriting.{Neighbour, none, at, put, onlyIf, fo
 use Rattle.meaning.proofs.Blocks.{rows-none, rows-more, length-derivedRows}
 use Rattle.meaning.proofs.Intervals.{movedTo, moved-cases}
 use Rattle.meaning.proofs.Unrolling.{until-last, until-step}
+use Rattle.meaning.proofs.Looking.{Future, reach, reach-future}
 use Rattle.meaning.proofs.Agreement.{recordValue, shiftValue, Agrees, agrees-down, agrees-new, block-fits, forms-value}
-use Rattle.meaning.proofs.RowsRight.{Future, reach, future-reach, RightRow, RightRows, from-reach, rows-agree, value-onlyIf, value-put, put-value}
+use Rattle.meaning.proofs.RowsRight.{RightRow, RightRows, from-reach, rows-agree, value-onlyIf, value-put, put-value}
 
 -- what a setting says of the next record: nothing at the end
 abbrev pub Ahead : List Entry → List Node → Neighbour → ℕ → ℕ → (ℕ → Bool) → Type 0
@@ -108,7 +109,7 @@ module _ (log : List Entry) (rising : Rising log) (rule : List Node) (ordered : 
       → value m (formIn m past (firstOf rule k + n)) σ ≡ meaning log (values log rule k) (shiftedNode d n) i)
       → value m (derivedRow m past (formsOf m rule k) derived (entryAt log i) later (firstOf rule k) d n) ρ
       ≡ meaning log (values log rule k) (shiftedNode d n) i
-  unfolding derivedRow meaning shiftedNode count Earlier timeAt
+  unfolding derivedRow meaning shiftedNode count Earlier timeAt Future reach
   derive-right later i k n past derived ρ (fixed b) f o c fit a own e p = let z : ⊥ = omega arith in absurd z
   derive-right later i k n past derived ρ (signal s) f o c fit a own e p = value-constant m (holds (entryAt log i) s) ρ
   derive-right later i k n past derived ρ (both l r) f o c fit a own e p = let z : ⊥ = omega arith in absurd z
@@ -137,6 +138,6 @@ module _ (log : List Entry) (rising : Rising log) (rule : List Node) (ordered : 
       let a′ : Ahead log rule later i k ρ
       = from-reach log rule m (Ahead log rule later i) (ahead-down later i) (nodeAt rule k) k ρ a in
       derive-right later i k n past derived ρ (nodeAt rule k) f (ordered k) c (block-fits log rule ordered m fits k) a′
-      (λ x. ahead-own later i k ρ (subst (λ y. Ahead log rule later i y ρ) (future-reach (nodeAt rule k) k x) a))
+      (λ x. ahead-own later i k ρ (subst (λ y. Ahead log rule later i y ρ) (reach-future (nodeAt rule k) k x) a))
       (rows-agree log rule m (Ahead log rule later i) (ahead-down later i) derived k i ih k (omega arith) ρ a′)
       (ok k n h c))

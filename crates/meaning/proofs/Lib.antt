@@ -1,5 +1,6 @@
 pub mod Blocks
 pub mod Intervals
+pub mod Looking
 pub mod Agreement
 pub mod Ranges
 pub mod Unrolling

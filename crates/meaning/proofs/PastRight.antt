@@ -16,8 +16,9 @@ use Rattle.meaning.specs.Rewriting.{none, at, put, onlyIf, formsOf, rowT
 use Rattle.meaning.proofs.Blocks.{rows-none, rows-more, length-pastRows}
 use Rattle.meaning.proofs.Intervals.{movedTo, moved-cases}
 use Rattle.meaning.proofs.Unrolling.{since-first, since-step}
+use Rattle.meaning.proofs.Looking.{Future, reach, reach-future}
 use Rattle.meaning.proofs.Agreement.{recordValue, shiftValue, Agrees, agrees-down, agrees-new, block-fits}
-use Rattle.meaning.proofs.RowsRight.{Future, reach, future-reach, RightRow, RightRows, from-reach, rows-agree, value-onlyIf, value-put, put-value}
+use Rattle.meaning.proofs.RowsRight.{RightRow, RightRows, from-reach, rows-agree, value-onlyIf, value-put, put-value}
 use Rattle.meaning.proofs.DerivedRight.{now-right}
 
 module _ (log : List Entry) (rising : Rising log) (rule : List Node) (ordered : Ordered rule) (m : ℕ)
@@ -76,7 +77,7 @@ module _ (log : List Entry) (rising : Rising log) (rule : List Node) (ordered : 
       → Agrees log rule 0 k (λ q. value m (formIn m past q) ρ)
       → value m (pastRow m (formsOf m rule k) derived past (entryAt log 0) none (firstOf rule k) d n) ρ
       ≡ meaning log (values log rule k) (shiftedNode d n) 0
-  unfolding pastRow previousRow previousAt sinceEarlier meaning shiftedNode count Earlier timeAt
+  unfolding pastRow previousRow previousAt sinceEarlier meaning shiftedNode count Earlier timeAt Future
   resolve-first k n derived past ρ (fixed b) o c fit f a = let z : ⊥ = omega arith in absurd z
   resolve-first k n derived past ρ (signal s) o c fit f a = value-constant m (holds (entryAt log 0) s) ρ
   resolve-first k n derived past ρ (both l r) o c fit f a = let z : ⊥ = omega arith in absurd z
@@ -95,7 +96,7 @@ module _ (log : List Entry) (rising : Rising log) (rule : List Node) (ordered : 
       → value m (formIn m derived (firstOf rule k + n)) σ ≡ meaning log (values log rule k) (shiftedNode d n) i)
       → value m (pastRow m (formsOf m rule k) derived past (entryAt log (suc i)) (at t) (firstOf rule k) d n) ρ
       ≡ meaning log (values log rule k) (shiftedNode d n) (suc i)
-  unfolding pastRow meaning shiftedNode count Earlier timeAt
+  unfolding pastRow meaning shiftedNode count Earlier timeAt Future reach
   resolve-later i k n derived past t ρ (fixed b) e len o c fit f a a′ r = let z : ⊥ = omega arith in absurd z
   resolve-later i k n derived past t ρ (signal s) e len o c fit f a a′ r = value-constant m (holds (entryAt log (suc i)) s) ρ
   resolve-later i k n derived past t ρ (both l r′) e len o c fit f a a′ r = let z : ⊥ = omega arith in absurd z
@@ -117,7 +118,7 @@ module _ (log : List Entry) (rising : Rising log) (rule : List Node) (ordered : 
       (length-pastRows m rule [] (entryAt log 0) none k) ih
       (λ n c ρ a.
       resolve-first k n [] past ρ (nodeAt rule k) (ordered k) c (block-fits log rule ordered m fits k)
-      (λ f. agrees-new log rule 0 k ρ (subst (λ x. Agrees log rule 0 x ρ) (future-reach (nodeAt rule k) k f) a) n c)
+      (λ f. agrees-new log rule 0 k ρ (subst (λ x. Agrees log rule 0 x ρ) (reach-future (nodeAt rule k) k f) a) n c)
       (rows-agree log rule m (Agrees log rule 0) (agrees-down log rule 0) past k 0 ih k (omega arith) ρ
       (from-reach log rule m (Agrees log rule 0) (agrees-down log rule 0) (nodeAt rule k) k ρ a)))
 
@@ -137,7 +138,7 @@ module _ (log : List Entry) (rising : Rising log) (rule : List Node) (ordered : 
       = rows-agree log rule m (Agrees log rule (suc i)) (agrees-down log rule (suc i)) past k (suc i) ih k (omega arith) ρ
       (from-reach log rule m (Agrees log rule (suc i)) (agrees-down log rule (suc i)) (nodeAt rule k) k ρ a) in
       resolve-later i k n derived past t ρ (nodeAt rule k) e len (ordered k) c (block-fits log rule ordered m fits k)
-      (λ f. agrees-new log rule (suc i) k ρ (subst (λ x. Agrees log rule (suc i) x ρ) (future-reach (nodeAt rule k) k f) a) n c)
+      (λ f. agrees-new log rule (suc i) k ρ (subst (λ x. Agrees log rule (suc i) x ρ) (reach-future (nodeAt rule k) k f) a) n c)
       a₁
       (rows-agree log rule m (Agrees log rule (suc i)) (agrees-down log rule (suc i)) derived K i ok k (omega arith)
       (λ q. value m (formIn m past q) ρ) a₁)

@@ -22,24 +22,9 @@ use Rattle.meaning.specs.Rewriting.{Neighbour, none, at, put, onlyIf, fo
 use Rattle.meaning.specs.Rewriting.{nextRow, untilLater, derivedRow, derivedRows}
 use Rattle.meaning.proofs.Blocks.{one-low, one-new, firstOf-more, firstOf-mono, Place, place}
 use Rattle.meaning.proofs.Blocks.{Rows, rows-none, rows-more, length-formsOf, length-derivedRows}
-use Rattle.meaning.proofs.Shapes.{Future, depends-onlyIf, depends-grows, depends-put}
-
--- a moved shift is gone, or one of the interval's shifts
-pub moved-cases : (P : Moved → Type 0) (v : Interval) (n here other : ℕ) → P gone
-    → ((i : ℕ) → i < shifts v → P (to i)) → P (moved v n here other)
-unfolding moved shifts
-moved-cases P (between low high) n here other p q = go (leb (n + distance here other) high) refl
-  where
-    go : (b : Bool) → leb (n + distance here other) high ≡ b → P (cond b (to (n + distance here other)) gone)
-    go true e = q (n + distance here other) (omega (arith, leb-true (n + distance here other) high e))
-    go false e = p
-moved-cases P (onward low) n here other p q = q (min (n + distance here other) low) (omega arith)
-
--- an interval has a shift
-pub shifts-some : (v : Interval) → 0 < shifts v
-unfolding shifts
-shifts-some (between low high) = omega arith
-shifts-some (onward low) = omega arith
+use Rattle.meaning.proofs.Intervals.{moved-cases, shifts-pos}
+use Rattle.meaning.proofs.Looking.{Future, reach, reach-most, reach-past}
+use Rattle.meaning.proofs.Shapes.{depends-onlyIf, depends-grows, depends-put}
 
 -- q is a parameter of one of the first k records
 abbrev pub Below : List Node → ℕ → ℕ → Type 0
@@ -47,39 +32,6 @@ Below rule k q = q < firstOf rule k
 
 pub below-grows : (rule : List Node) (k l q : ℕ) → k ≤ l → Below rule k q → Below rule l q
 below-grows rule k l q h b = omega (arith, firstOf-mono rule k l h)
-
--- how many records' parameters a row of record k may name: the earlier records', and for next and until its own
-unfoldable pub reach : Node → ℕ → ℕ
-reach (fixed b) k = k
-reach (signal s) k = k
-reach (both l r) k = k
-reach (either l r) k = k
-reach (next l v) k = suc k
-reach (until l r v) k = suc k
-reach (previous l v) k = k
-reach (since l r v) k = k
-
-pub reach-most : (d : Node) (k : ℕ) → reach d k ≤ suc k
-unfolding reach
-reach-most (fixed b) k = omega arith
-reach-most (signal s) k = omega arith
-reach-most (both l r) k = omega arith
-reach-most (either l r) k = omega arith
-reach-most (next l v) k = omega arith
-reach-most (until l r v) k = omega arith
-reach-most (previous l v) k = omega arith
-reach-most (since l r v) k = omega arith
-
-pub reach-past : (d : Node) (k : ℕ) → (Future d → ⊥) → reach d k ≡ k
-unfolding reach Future
-reach-past (fixed b) k u = refl
-reach-past (signal s) k u = refl
-reach-past (both l r) k u = refl
-reach-past (either l r) k u = refl
-reach-past (next l v) k u = absurd (u tt)
-reach-past (until l r v) k u = absurd (u tt)
-reach-past (previous l v) k u = refl
-reach-past (since l r v) k u = refl
 
 -- each row of the first K records keeps to that
 abbrev pub LooksBack : List Node → (m : ℕ) → List (Form m) → ℕ → Type 0
@@ -102,9 +54,9 @@ form-depends S m forms first k (both l r) o all own =
 form-depends S m forms first k (either l r) o all own =
     depends-xor S m (formIn m forms l) (formIn m forms r) (all l (o .0)) (all r (o .1))
 form-depends S m forms first k (next l v) o all own = own (omega arith)
-form-depends S m forms first k (until l r v) o all own = own (shifts-some v)
+form-depends S m forms first k (until l r v) o all own = own (shifts-pos v)
 form-depends S m forms first k (previous l v) o all own = own (omega arith)
-form-depends S m forms first k (since l r v) o all own = own (shifts-some v)
+form-depends S m forms first k (since l r v) o all own = own (shifts-pos v)
 
 module _ (rule : List Node) (m : ℕ) where
   back-grows : (k l : ℕ) (f : Form m) → k ≤ l → DependsOn (Below rule k) m f → DependsOn (Below rule l) m f

@@ -10,53 +10,11 @@ use Rattle.ground.specs.Fold.{tab}
 use Rattle.forms.specs.Form.{Form, constant, value}
 use Rattle.forms.specs.Area.{formIn}
 use Rattle.forms.proofs.Values.{value-constant, value-putIn}
-use Rattle.meaning.specs.Rule.{Node, fixed, signal, both, either, next, until, previous, since, nodeAt, Ordered, count, firstOf, Entry}
+use Rattle.meaning.specs.Rule.{Node, nodeAt, Ordered, firstOf, Entry}
 use Rattle.meaning.specs.Rewriting.{put, onlyIf, formsOf}
 use Rattle.meaning.proofs.Blocks.{Rows, rows-none, rows-more}
+use Rattle.meaning.proofs.Looking.{reach, reach-cases}
 use Rattle.meaning.proofs.Agreement.{recordValue, shiftValue, Agrees, agrees-up, forms-value}
-
--- next and until look ahead
-abbrev pub Future : Node → Type 0
-Future (fixed b) = ⊥
-Future (signal s) = ⊥
-Future (both l r) = ⊥
-Future (either l r) = ⊥
-Future (next l v) = Unit {0}
-Future (until l r v) = Unit {0}
-Future (previous l v) = ⊥
-Future (since l r v) = ⊥
-
--- a row of record k looks at the parameters of the records before it; one of a next or until also at its own
-abbrev pub reach : Node → ℕ → ℕ
-reach (fixed b) k = k
-reach (signal s) k = k
-reach (both l r) k = k
-reach (either l r) k = k
-reach (next l v) k = suc k
-reach (until l r v) k = suc k
-reach (previous l v) k = k
-reach (since l r v) k = k
-
-pub future-reach : (d : Node) (k : ℕ) → Future d → reach d k ≡ suc k
-future-reach (fixed b) k f = absurd f
-future-reach (signal s) k f = absurd f
-future-reach (both l r) k f = absurd f
-future-reach (either l r) k f = absurd f
-future-reach (next l v) k f = refl
-future-reach (until l r v) k f = refl
-future-reach (previous l v) k f = absurd f
-future-reach (since l r v) k f = absurd f
-
--- reach is k or k + 1
-pub reach-cases : (P : ℕ → Type 0) (d : Node) (k : ℕ) → P k → P (suc k) → P (reach d k)
-reach-cases P (fixed b) k p q = p
-reach-cases P (signal s) k p q = p
-reach-cases P (both l r) k p q = p
-reach-cases P (either l r) k p q = p
-reach-cases P (next l v) k p q = q
-reach-cases P (until l r v) k p q = q
-reach-cases P (previous l v) k p q = p
-reach-cases P (since l r v) k p q = p
 
 module _ (log : List Entry) (rule : List Node) (m : ℕ) where
   -- f has the value of record k's shift n at record i, under each setting that A allows
@@ -69,10 +27,10 @@ module _ (log : List Entry) (rule : List Node) (m : ℕ) where
   module _ (A : ℕ → (ℕ → Bool) → Type 0) (down : (k : ℕ) (ρ : ℕ → Bool) → A (suc k) ρ → A k ρ) where
     -- what A allows of more records it allows of fewer
     pub from-reach : (d : Node) (k : ℕ) (ρ : ℕ → Bool) → A (reach d k) ρ → A k ρ
-    from-reach d k ρ = reach-cases (λ x. A x ρ → A k ρ) d k (λ a. a) (down k ρ)
+    from-reach d k ρ = reach-cases (λ x. A x ρ → A k ρ) d k (λ _ a. a) (λ _. down k ρ)
 
     to-reach : (d : Node) (k : ℕ) (ρ : ℕ → Bool) → A (suc k) ρ → A (reach d k) ρ
-    to-reach d k ρ a = reach-cases (λ x. A x ρ) d k (down k ρ a) a
+    to-reach d k ρ a = reach-cases (λ x. A x ρ) d k (λ _. down k ρ a) (λ _. a)
 
     -- right rows make a right setting
     pub rows-agree : (rows : List (Form m)) (K i : ℕ) → RightRows A rows K i → (k : ℕ) → k ≤ K → (ρ : ℕ → Bool) → A k ρ

@@ -18,19 +18,9 @@ use Rattle.meaning.specs.Rule.{nodeAt, count, firstOf, Entry, holds}
 use Rattle.meaning.specs.Rewriting.{Neighbour, none, at, put, onlyIf, rowTo, formsOf}
 use Rattle.meaning.specs.Rewriting.{previousRow, sinceEarlier, pastRow, pastRows, derivedRows}
 use Rattle.meaning.specs.Words.{Known, first, feed, fed}
+use Rattle.meaning.proofs.Looking.{Future}
 use Rattle.meaning.proofs.Blocks.{firstOf-more, firstOf-mono, Place, place}
 use Rattle.meaning.proofs.Blocks.{Rows, rows-none, rows-more, length-pastRows}
-
--- a next or until record
-unfoldable pub Future : Node → Type 0
-Future (fixed b) = ⊥
-Future (signal s) = ⊥
-Future (both l r) = ⊥
-Future (either l r) = ⊥
-Future (next l v) = Unit {0}
-Future (until l r v) = Unit {0}
-Future (previous l v) = ⊥
-Future (since l r v) = ⊥
 
 -- q is a next or until parameter of one of the first k records
 pub record FutureBefore (rule : List Node) (k q : ℕ) : Type 0 where

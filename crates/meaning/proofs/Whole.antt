@@ -17,8 +17,10 @@ use Rattle.meaning.specs.Rewriting.{nextRow, untilLater, derivedRow, der
 use Rattle.meaning.specs.Rewriting.{previousRow, sinceEarlier, pastRow, pastRows}
 use Rattle.meaning.proofs.Blocks.{one-low, block-low, block-new, firstOf-more, firstOf-mono}
 use Rattle.meaning.proofs.Blocks.{length-formsOf, length-derivedRows, length-pastRows}
-use Rattle.meaning.proofs.Shapes.{Future, Shaped, future-below, shaped-past}
-use Rattle.meaning.proofs.Reach.{moved-cases, Below, reach-past, LooksBack, forms-back, put-back-low}
+use Rattle.meaning.proofs.Intervals.{moved-cases}
+use Rattle.meaning.proofs.Looking.{Future, reach-past}
+use Rattle.meaning.proofs.Shapes.{Shaped, future-below, shaped-past}
+use Rattle.meaning.proofs.Reach.{Below, LooksBack, forms-back, put-back-low}
 
 module _ (m : ℕ) (rule : List Node) where
   -- the tables of more records begin with those of fewer
