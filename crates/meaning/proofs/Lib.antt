@@ -8,3 +8,6 @@ pub mod DerivedRight
 pub mod PastRight
 pub mod Following
 pub mod Theorems
+pub mod Horizons
+pub mod Keeping
+pub mod Settling
