@@ -15,3 +15,6 @@ pub mod NotRewriteable
 pub mod Shapes
 pub mod Reach
 pub mod Whole
+pub mod Horizons
+pub mod Keeping
+pub mod Settling
