@@ -1,4 +1,5 @@
--- Intervals of minutes: whether two records stand in one, and what a gap makes of it (document 01, "How the rule is rewritten").
+-- Intervals of minutes: whether two records stand in one, and what a gap makes of it
+-- (document 01, "How the rule is rewritten").
 use mathlib.Core.Bool.{Bool, _&&_, cond}
 use Prim.Native.Nat.{ℕ, suc, _+_, _-_, min}
 use lib.Dec.{leb}
@@ -32,7 +33,8 @@ pub data Moved : Type 0 where
   gone : Moved
   to : ℕ → Moved
 
--- shift n moved by the gap between the record here and its neighbour: past a finite high it is gone, with no upper end it stops at low
+-- shift n moved by the gap between the record here and its neighbour:
+-- past a finite high it is gone, with no upper end it stops at low
 unfoldable pub moved : Interval → ℕ → ℕ → ℕ → Moved
 moved (between low high) n here other = cond (leb (n + distance here other) high) (to (n + distance here other)) gone
 moved (onward low) n here other = to (min (n + distance here other) low)

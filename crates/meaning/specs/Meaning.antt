@@ -1,4 +1,5 @@
--- What a rule means at a record of a log (document 01, "What a rule means"; document 000, section 2). Records of the log count from 0.
+-- What a rule means at a record of a log (document 01, "What a rule means"; document 000, section 2).
+-- Records of the log count from 0: document 01's record 1 is record 0 here.
 use mathlib.Core.Bool.{Bool, true, false, _&&_}
 use mathlib.Core.List.{List, [], _∷_, _++_}
 use Prim.Native.Nat.{ℕ, zero, suc, _+_, _-_}
@@ -6,7 +7,8 @@ use lib.Dec.{ltb}
 use lib.ListN.{length, getD}
 use Rattle.ground.specs.Fold.{_⊕_, everyIn, someIn, tab}
 use Rattle.meaning.specs.Interval.{Interval, inside}
-use Rattle.meaning.specs.Rule.{Node, fixed, signal, both, either, next, until, previous, since, nodeAt, count, shiftedNode, Entry, entryAt, timeAt, holds}
+use Rattle.meaning.specs.Rule.{Node, fixed, signal, both, either, next, until, previous, since}
+use Rattle.meaning.specs.Rule.{nodeAt, count, shiftedNode, Entry, entryAt, timeAt, holds}
 
 module _ (log : List Entry) where
   -- there is a record i + 1, it is in the interval, and left holds there
@@ -48,12 +50,13 @@ module _ (log : List Entry) where
   unfoldable pub parameterValues : List Node → ℕ → List (ℕ → Bool)
   parameterValues rule zero = []
   parameterValues rule (suc k) =
-      parameterValues rule k ++ tab (count (nodeAt rule k)) (λ n. meaning (values rule k) (shiftedNode (nodeAt rule k) n))
+      parameterValues rule k
+      ++ tab (count (nodeAt rule k)) (λ n. meaning (values rule k) (shiftedNode (nodeAt rule k) n))
 
   -- the value of parameter p at record i
   unfoldable pub parameterAt : List Node → ℕ → ℕ → Bool
   parameterAt rule p i = (getD (parameterValues rule (length rule)) p (λ j. false)) i
 
-  -- a log's value: the rule's last record at the first record of the log
+  -- a log's value: the rule's last record at the first record of the log (an empty log has none: nothing is said of it)
   unfoldable pub valueOf : List Node → Bool
   valueOf rule = (getD (values rule (length rule)) (length rule - 1) (λ j. false)) 0

@@ -7,7 +7,8 @@ use Rattle.ground.specs.Fold.{tab}
 use Rattle.forms.specs.Form.{Form, constant, parameter, xor, and, or, putIn}
 use Rattle.forms.specs.Area.{formIn}
 use Rattle.meaning.specs.Interval.{Interval, inside, shifted, Moved, gone, to, moved}
-use Rattle.meaning.specs.Rule.{Node, fixed, signal, both, either, next, until, previous, since, nodeAt, count, firstOf, Entry, holds}
+use Rattle.meaning.specs.Rule.{Node, fixed, signal, both, either, next, until, previous, since}
+use Rattle.meaning.specs.Rule.{nodeAt, count, firstOf, Entry, holds}
 
 -- the neighbouring record: there is none, before the first and after the last, or it has a time
 pub data Neighbour : Type 0 where
@@ -78,9 +79,11 @@ module _ (m : ℕ) where
   derivedRows rule past e later (suc k) =
       let derived = derivedRows rule past e later k in
       derived
-      ++ tab (count (nodeAt rule k)) (derivedRow past (formsOf rule k) derived e later (firstOf rule k) (nodeAt rule k))
+      ++ tab (count (nodeAt rule k))
+      (derivedRow past (formsOf rule k) derived e later (firstOf rule k) (nodeAt rule k))
 
-  -- previous resolved: left's form with the derived rows of the record before put in, then the past rows; false at the first record
+  -- previous resolved: left's form with the derived rows of the record before put in, then the past rows;
+  -- false at the first record
   unfoldable pub previousRow : (forms derived past : List (Form m)) → ℕ → Interval → ℕ → Neighbour → Form m
   previousRow forms derived past l v here none = constant m false
   previousRow forms derived past l v here (at other) =
@@ -92,7 +95,7 @@ module _ (m : ℕ) where
   sinceEarlier forms derived past first l v n here (at other) =
       and m (put (formIn m forms l) past) (put (rowTo derived first (moved v n here other)) past)
 
-  -- the past row of a record's shift n at record e of the log, whose neighbour is the record before, with its derived rows
+  -- the past row of a record's shift n at record e of the log, with the derived rows of the record before
   unfoldable pub pastRow : (forms derived past : List (Form m)) → Entry → Neighbour → ℕ → Node → ℕ → Form m
   pastRow forms derived past e before first (fixed b) n = constant m false
   pastRow forms derived past e before first (signal s) n = constant m (holds e s)
@@ -111,4 +114,5 @@ module _ (m : ℕ) where
   pastRows rule derived e before (suc k) =
       let past = pastRows rule derived e before k in
       past
-      ++ tab (count (nodeAt rule k)) (pastRow (formsOf rule k) derived past e before (firstOf rule k) (nodeAt rule k))
+      ++ tab (count (nodeAt rule k))
+      (pastRow (formsOf rule k) derived past e before (firstOf rule k) (nodeAt rule k))
