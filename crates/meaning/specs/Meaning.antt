@@ -57,6 +57,6 @@ module _ (log : List Entry) where
   unfoldable pub parameterAt : List Node → ℕ → ℕ → Bool
   parameterAt rule p i = (getD (parameterValues rule (length rule)) p (λ j. false)) i
 
-  -- a log's value: the rule's last record at the first record of the log (an empty log has none: nothing is said of it)
+  -- a log's value: the rule's last record at the first record of the log; an empty log has none
   unfoldable pub valueOf : List Node → Bool
   valueOf rule = (getD (values rule (length rule)) (length rule - 1) (λ j. false)) 0
