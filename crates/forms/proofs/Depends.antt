@@ -1,19 +1,18 @@
 -- What a form depends on: by its values, through the operations, and by the parameters that it names.
 -- Assumes nothing.
 use mathlib.Core.Path.{_≡_, refl, sym, ap, ap₂, _∙_, subst}
-use mathlib.Core.Bool.{Bool, true, false, not, _&&_, _||_, cond, and-true, and-false, true≢false}
-use Prim.Native.Nat.{ℕ, zero, suc, _^_, _≤_, _<_}
+use mathlib.Core.Bool.{Bool, true, false, not, _&&_, _||_, cond, and-false, true≢false}
+use Prim.Native.Nat.{ℕ, zero, suc, _^_, _<_}
 use native.Mathlib.Decide.{decLt}
 use native.Mathlib.Omega.{arith}
 use lib.Dec.{eqb}
 use borrow.Author.Tests.{eq-eqb, ne-eqb, eqb-true, eqb-false}
-use Rattle.ground.specs.Fold.{_⊕_, fold, some}
+use Rattle.ground.specs.Fold.{_⊕_}
 use Rattle.ground.specs.Bits.{bit}
-use Rattle.ground.proofs.Xor.{⊕-false}
 use Rattle.ground.proofs.Folds.{fold-cong, parity-cong, some-at, some-none}
 use Rattle.ground.proofs.Bits.{bit-above}
 use Rattle.forms.specs.Form.{Form, constant, parameter, xor, and, or, putIn, value, DependsOn, has, names}
-use Rattle.forms.proofs.Values.{pairs, value-agree, value-constant, value-parameter, value-xor, value-and, value-putIn, canonical}
+use Rattle.forms.proofs.Values.{value-agree, value-constant, value-parameter, value-xor, value-and, value-putIn, canonical}
 use Rattle.forms.proofs.Terms.{picked, has-false, termValue, value-terms}
 
 -- a form with one value everywhere is the constant

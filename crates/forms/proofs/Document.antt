@@ -1,16 +1,15 @@
 -- `and` and `putIn` are document 000's conjunction and substitution.
 -- Assumes nothing.
-use mathlib.Core.Path.{_≡_, refl, sym, ap, ap₂, _∙_, subst}
-use mathlib.Core.Bool.{Bool, true, false, not, _&&_, _||_, cond, and-true, and-false, and-comm, and-assoc, or-true}
-use mathlib.Core.Logic.{_≢_}
-use Prim.Native.Nat.{ℕ, zero, suc, _+_, _^_, _≤_, _<_}
+use mathlib.Core.Path.{_≡_, refl, sym, ap, ap₂, _∙_}
+use mathlib.Core.Bool.{Bool, true, false, not, _&&_, _||_, cond, and-true, and-false, and-comm, and-assoc}
+use Prim.Native.Nat.{ℕ, _^_, _≤_, _<_}
 use native.Mathlib.Nat.{zero-add}
 use native.Mathlib.Decide.{decLt}
 use native.Mathlib.Omega.{arith}
 use lib.Bits.{bitOr, or-lt}
-use lib.Dec.{eqb, ltb}
+use lib.Dec.{eqb}
 use borrow.Author.Tests.{eq-eqb, ne-eqb, lt-ltb, le-ltb}
-use Rattle.ground.specs.Fold.{_⊕_, fold, every, parity}
+use Rattle.ground.specs.Fold.{_⊕_, fold, parity}
 use Rattle.ground.specs.Bits.{bit}
 use Rattle.ground.proofs.Folds.{fold-cong, fold-none, fold-both, fold-through, parity-and, parity-swap, parity-cong, parity-one}
 use Rattle.ground.proofs.Bits.{bit-or}

@@ -1,25 +1,25 @@
 -- Forms and their 64 words: there and back, and over more parameters.
 -- Assumes nothing.
 use mathlib.Core.Path.{_≡_, refl, sym, ap, ap₂, _∙_, subst}
-use mathlib.Core.Bool.{Bool, true, false, not, _&&_, _||_, cond, and-false, or-true, true≢false}
+use mathlib.Core.Bool.{Bool, true, false, not, _&&_, _||_, and-false, or-true, true≢false}
 use mathlib.Core.List.{List}
-use Prim.Native.Nat.{ℕ, zero, suc, _+_, _-_, _*_, _/_, _%_, _^_, _≤_, _<_}
-use native.Mathlib.Nat.{two-pow-succ, zero-add, le-refl, le-trans}
+use Prim.Native.Nat.{ℕ, suc, _+_, _-_, _*_, _/_, _%_, _^_, _≤_, _<_}
+use native.Mathlib.Nat.{two-pow-succ, zero-add, le-refl}
 use native.Mathlib.Decide.{decLt, le-ind}
 use native.Mathlib.Omega.{arith}
-use lib.Dec.{eqb, ltb}
+use lib.Dec.{ltb}
 use lib.ListN.{length, getD, replicate}
 use lib.Pow.{pow-mono}
 use borrow.Author.Tests.{lt-ltb, le-ltb}
-use Rattle.ground.specs.Fold.{_⊕_, tab, every}
+use Rattle.ground.specs.Fold.{_⊕_}
 use Rattle.ground.specs.Bits.{bit, ofBits, bitAt, Words}
 use Rattle.ground.proofs.Xor.{⊕-false, &&-⊕}
 use Rattle.ground.proofs.Folds.{every-all, every-at}
 use Rattle.ground.proofs.Tabs.{length-tab, getD-tab}
 use Rattle.ground.proofs.Numbers.{ofBits-lt, bit-ofBits, words-of, words-same, zero-words, zero-bit}
-use Rattle.forms.specs.Form.{Form, constant, parameter, xor, putIn, seen, value, has, each}
-use Rattle.forms.specs.Words.{most, bitOf, pack, ofTerms, unpack, fits}
-use Rattle.forms.proofs.Values.{pairs, value-agree, value-constant, value-parameter, value-putIn, canonical}
+use Rattle.forms.specs.Form.{Form, constant, parameter, xor, seen, value, has, each}
+use Rattle.forms.specs.Words.{most, bitOf, pack, unpack, fits}
+use Rattle.forms.proofs.Values.{value-agree, value-constant, value-parameter, value-putIn, canonical}
 use Rattle.forms.proofs.Terms.{has-low, has-high, has-xor, has-false, has-ofTerms, terms-same}
 use Rattle.forms.proofs.Document.{bitOf-low, bitOf-high}
 use Rattle.forms.proofs.Truths.{has-each}

@@ -1,11 +1,10 @@
 -- The pass of a parameter, on the words of a row and on its bits.
 -- Assumes nothing.
 use mathlib.Core.Path.{_≡_, refl, sym, ap, ap₂, _∙_, subst}
-use mathlib.Core.Bool.{Bool, true, false, _&&_, Bool·beq, and-assoc, and-comm, true≢false, false≢true}
-use mathlib.Core.Logic.{_≢_}
+use mathlib.Core.Bool.{Bool, true, false, _&&_, Bool·beq, and-assoc, and-comm, false≢true}
 use mathlib.Core.List.{List}
-use Prim.Native.Nat.{ℕ, suc, _+_, _-_, _*_, _/_, _%_, _^_, _≤_, _<_}
-use native.Mathlib.Nat.{div-eq-of-lt, le-refl}
+use Prim.Native.Nat.{ℕ, _+_, _-_, _*_, _/_, _%_, _^_, _≤_, _<_}
+use native.Mathlib.Nat.{div-eq-of-lt}
 use native.Mathlib.Numerals.{add-one}
 use native.Mathlib.Decide.{decLt}
 use native.Mathlib.Omega.{arith}
@@ -13,19 +12,18 @@ use lib.ListN.{length, getD, set}
 use lib.Seq.{getD-set-same, getD-set-other}
 use borrow.Author.Count.{below-more}
 use lib.Bits.{bitXor, bitAnd}
-use lib.Dec.{eqb, leb}
-use lib.Pow.{pow-add, pow-pos, pow-lt, pow-mono}
+use lib.Dec.{leb}
+use lib.Pow.{pow-add, pow-pos, pow-lt}
 use borrow.Author.Tests.{eq-eqb, ne-eqb}
 use Rattle.ground.specs.Fold.{_⊕_, fold, every}
-use Rattle.ground.specs.Bits.{bit, bitAt, Words}
+use Rattle.ground.specs.Bits.{bit, bitAt}
 use Rattle.ground.proofs.Xor.{⊕-false}
 use Rattle.ground.proofs.Folds.{every-at}
 use Rattle.ground.proofs.Bits.{bit-xor, bit-and, bit-shr, bit-shl, bit-low, bit-le, bit-true, bit-false, one-shl}
 use Rattle.ground.proofs.Numbers.{bit-minus, words-of}
 use Rattle.forms.specs.Form.{Form, has, truth}
-use Rattle.forms.specs.Words.{most, bitOf, pack}
+use Rattle.forms.specs.Words.{most, pack}
 use Rattle.forms.specs.Steps.{masks, passedBit, PassedWord, Passed}
-use Rattle.forms.proofs.Terms.{has-agree}
 use Rattle.forms.proofs.Document.{bitOf-low}
 use Rattle.forms.proofs.Truths.{pass, passes, has-pass, passes-truth}
 use Rattle.forms.proofs.Packing.{bit-pack, pack-is, most-is, most-wide}

@@ -1,20 +1,20 @@
 -- Putting rows in by truth values.
 -- Assumes nothing.
-use mathlib.Core.Path.{_≡_, refl, sym, ap, ap₂, _∙_, subst}
-use mathlib.Core.Bool.{Bool, true, false, _&&_}
+use mathlib.Core.Path.{_≡_, sym, ap, ap₂, _∙_, subst}
+use mathlib.Core.Bool.{true, false, _&&_}
 use mathlib.Core.List.{List}
-use Prim.Native.Nat.{ℕ, zero, suc, _+_, _-_, _*_, _/_, _%_, _^_, _≤_, _<_}
+use Prim.Native.Nat.{ℕ, suc, _+_, _-_, _*_, _/_, _%_, _^_, _≤_, _<_}
 use native.Mathlib.Nat.{lt-of-le-of-lt, two-pow-succ}
 use native.Mathlib.Omega.{arith}
 use lib.Bits.{bitXor, bitAnd, xor-lt, and-le-r}
 use lib.ListN.{length, getD, replicate, length-replicate, getD-replicate}
 use lib.Pow.{ones-lt}
-use Rattle.ground.specs.Fold.{_⊕_, tab}
-use Rattle.ground.specs.Bits.{bit, bitAt, Words}
+use Rattle.ground.specs.Fold.{_⊕_}
+use Rattle.ground.specs.Bits.{bit, bitAt}
 use Rattle.ground.proofs.Bits.{bit-xor, bit-and}
 use Rattle.ground.proofs.Numbers.{words-of, bit-ones}
-use Rattle.forms.specs.Form.{Form, constant, xor, putIn, has, truth, each}
-use Rattle.forms.specs.Words.{most, bitOf, pack, ofTerms}
+use Rattle.forms.specs.Form.{constant, xor, putIn, truth, each}
+use Rattle.forms.specs.Words.{most, pack, ofTerms}
 use Rattle.forms.specs.Area.{rowAt}
 use Rattle.forms.specs.Steps.{Mixed, PutTerms}
 use Rattle.forms.proofs.Areas.{row-at}

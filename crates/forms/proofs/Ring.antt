@@ -1,6 +1,6 @@
 -- Document 000's equations (1) to (9) of the ring of forms: each holds of values, and values fix a form.
 -- Assumes nothing.
-use mathlib.Core.Path.{_≡_, refl, sym, ap, ap₂, _∙_}
+use mathlib.Core.Path.{_≡_, refl, sym, ap₂, _∙_}
 use mathlib.Core.Bool.{Bool, true, false, _&&_, and-true, and-comm, and-assoc, and-self}
 use Prim.Native.Nat.{ℕ}
 use Rattle.ground.specs.Fold.{_⊕_}

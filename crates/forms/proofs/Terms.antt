@@ -2,15 +2,13 @@
 -- Assumes nothing.
 use mathlib.Core.Path.{_≡_, refl, sym, ap, ap₂, _∙_, subst}
 use mathlib.Core.Bool.{Bool, true, false, not, _&&_, _||_, cond, and-true, and-comm, and-assoc}
-use Prim.Native.Nat.{ℕ, zero, suc, _+_, _-_, _^_, _≤_, _<_}
-use native.Mathlib.Nat.{two-pow-succ, add-assoc, add-zero}
+use Prim.Native.Nat.{ℕ, zero, suc, _+_, _-_, _^_, _<_}
+use native.Mathlib.Nat.{two-pow-succ, add-assoc}
 use native.Mathlib.Decide.{decLt}
 use native.Mathlib.Omega.{arith}
-use lib.Dec.{eqb}
 use borrow.Author.Tests.{eq-eqb, ne-eqb}
 use Rattle.ground.specs.Fold.{_⊕_, fold, every, parity}
 use Rattle.ground.specs.Bits.{bit}
-use Rattle.ground.proofs.Xor.{⊕-false}
 use Rattle.ground.proofs.Folds.{fold-cong, parity-and, parity-halves, parity-cong}
 use Rattle.ground.proofs.Bits.{bit-plus, bit-over}
 use Rattle.forms.specs.Form.{Form, constant, xor, value, has}

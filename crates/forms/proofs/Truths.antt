@@ -1,15 +1,15 @@
 -- Truth values: the form whose terms are the settings that make a form true.
 -- Assumes nothing.
-use mathlib.Core.Path.{_≡_, refl, sym, ap, ap₂, _∙_, subst}
-use mathlib.Core.Bool.{Bool, true, false, not, _&&_, _||_, cond, and-true}
+use mathlib.Core.Path.{_≡_, refl, sym, ap, ap₂, _∙_}
+use mathlib.Core.Bool.{Bool, true, false, _&&_, cond}
 use mathlib.Core.Logic.{_≢_}
-use Prim.Native.Nat.{ℕ, zero, suc, _+_, _^_, _≤_, _<_}
+use Prim.Native.Nat.{ℕ, zero, suc, _≤_, _<_}
 use native.Mathlib.Omega.{arith}
 use lib.Dec.{eqb}
 use borrow.Author.Tests.{eq-eqb, ne-eqb, eqb-true, eqb-false}
 use Rattle.ground.specs.Fold.{_⊕_}
 use Rattle.ground.specs.Bits.{bit}
-use Rattle.ground.proofs.Xor.{⊕-false, ⊕-self, ⊕-comm, ⊕-cancel}
+use Rattle.ground.proofs.Xor.{⊕-false, ⊕-comm, ⊕-cancel}
 use Rattle.forms.specs.Form.{Form, constant, xor, and, putIn, value, has, truth, each}
 use Rattle.forms.proofs.Values.{pairs, value-agree, value-constant, value-xor, value-and, value-putIn, canonical}
 use Rattle.forms.proofs.Terms.{picked, has-agree, has-xor, has-false, terms-same}

@@ -1,15 +1,15 @@
 -- The value of each form, and that its values fix a form: the laws that the rewriting cites.
 -- Assumes nothing.
 use mathlib.Core.Path.{_≡_, refl, sym, ap, ap₂, _∙_}
-use mathlib.Core.Bool.{Bool, true, false, not, _&&_, _||_, cond, and-true, and-false, and-comm, and-assoc, and-self}
+use mathlib.Core.Bool.{Bool, true, false, _&&_, _||_, cond, and-true, and-false}
 use Prim.Native.Nat.{ℕ, zero, suc, _≤_, _<_}
 use native.Mathlib.Omega.{arith}
 use lib.Dec.{eqb}
 use borrow.Author.Tests.{eq-eqb, ne-eqb, eqb-true, eqb-false}
 use Rattle.ground.specs.Fold.{_⊕_}
-use Rattle.ground.proofs.Xor.{⊕-false, ⊕-self, ⊕-comm, ⊕-assoc, ⊕-cancel, ⊕-inj, &&-⊕, or-⊕}
+use Rattle.ground.proofs.Xor.{⊕-false, ⊕-cancel, ⊕-inj, &&-⊕, or-⊕}
 use Rattle.ground.proofs.Folds.{⊕-mid}
-use Rattle.forms.specs.Form.{Form, constant, parameter, xor, and, or, putIn, value, DependsOn, same}
+use Rattle.forms.specs.Form.{Form, constant, parameter, xor, and, or, putIn, value}
 
 pub pairs : (m : ℕ) {a b c d : Form m} → a ≡ b → c ≡ d → _≡_ {A = Form (suc m)} (a, c) (b, d)
 pairs m p q = λ i. (p i, q i)

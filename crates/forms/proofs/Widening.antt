@@ -1,21 +1,18 @@
 -- Rows of an area put into a form: over the most parameters, and so over fewer.
 -- Assumes nothing.
-use mathlib.Core.Path.{_≡_, refl, sym, ap, ap₂, _∙_, subst}
-use mathlib.Core.Bool.{Bool, true, false}
+use mathlib.Core.Path.{_≡_, sym, ap, ap₂, _∙_, subst}
+use mathlib.Core.Bool.{false}
 use mathlib.Core.Logic.{inl}
 use mathlib.Core.List.{List, map}
-use Prim.Native.Nat.{ℕ, suc, _+_, _*_, _%_, _^_, _≤_, _<_}
+use Prim.Native.Nat.{ℕ, _+_, _%_, _≤_, _<_}
 use native.Mathlib.Nat.{add-zero, le-trans}
 use native.Mathlib.Omega.{arith}
 use borrow.Author.Count.{below-more}
 use lib.ListN.{length, getD, replicate, length-map, List·getD-map, List·getD-eq-default}
-use Rattle.ground.specs.Fold.{tab}
-use Rattle.ground.specs.Bits.{bit, bitAt, Words}
-use Rattle.ground.proofs.Tabs.{length-tab, getD-tab}
+use Rattle.ground.specs.Bits.{bit, bitAt}
 use Rattle.ground.proofs.Bits.{bit-low}
-use Rattle.ground.proofs.Numbers.{zero-at}
 use Rattle.forms.specs.Form.{Form, constant, putIn, seen, value, truth}
-use Rattle.forms.specs.Words.{most, bitOf, pack, unpack, ofTerms}
+use Rattle.forms.specs.Words.{most, pack, unpack, ofTerms}
 use Rattle.forms.specs.Area.{rowAt, putRows, formIn, Holds}
 use Rattle.forms.specs.Rows.{WithRows}
 use Rattle.forms.specs.Steps.{Tables, PutTerms, TableAt, TablesOf}
@@ -24,7 +21,7 @@ use Rattle.forms.proofs.Depends.{putIn-constant}
 use Rattle.forms.proofs.Truths.{has-truth, truth-truth, truth-false}
 use Rattle.forms.proofs.Document.{bitOf-low}
 use Rattle.forms.proofs.Packing.{pack-words, bit-pack, unpack-pack, pack-inj, pack-false, value-seen, pack-seen, most-is, most-few, most-wide}
-use Rattle.forms.proofs.Areas.{row-at, row-put, row-kept, length-putRows, row-past}
+use Rattle.forms.proofs.Areas.{row-put, row-kept, row-past}
 
 -- no row there, or one of zeros: false
 pub table-none : (ws : List ℕ) (base count j : ℕ) → count ≤ j → TableAt ws base count j (replicate 64 0)
