@@ -132,7 +132,9 @@ pub xor-row : (m : ℕ) (f g : Form m) (a b r : List ℕ) → a ≡ pack m f →
     → ((i : ℕ) → i < 64 → getD r i 0 ≡ bitXor (getD a i 0) (getD b i 0)) → r ≡ pack m (xor m f g)
 xor-row m f g a b r ea eb long each =
     pack-by m (xor m f g) r long
-    (λ i h. subst (λ x. x < 2 ^ 64) (sym (each i h)) (xor-lt 64 (getD a i 0) (getD b i 0) (word-lt m f a i ea) (word-lt m g b i eb)))
+    (λ i h.
+    subst (λ x. x < 2 ^ 64) (sym (each i h))
+    (xor-lt 64 (getD a i 0) (getD b i 0) (word-lt m f a i ea) (word-lt m g b i eb)))
     (λ i t h l.
     ap (λ x. bit x t) (each i h) ∙ bit-xor (getD a i 0) (getD b i 0) t
     ∙ ap₂ _⊕_ (word-bit m f a i t ea h l) (word-bit m g b i t eb h l) ∙ sym (bitOf-xor m f g (64 * i + t)))

@@ -42,7 +42,8 @@ bit-pack m f k h =
     ∙ ap (bitOf m f) (let e : 64 * (k / 64) + k % 64 ≡ k = omega arith in e)
 
 -- 64 words with the form's bits are the form's
-pub pack-is : (m : ℕ) (f : Form m) (r : List ℕ) → Words 64 r → ((k : ℕ) → k < 4096 → bitAt r k ≡ bitOf m f k) → r ≡ pack m f
+pub pack-is : (m : ℕ) (f : Form m) (r : List ℕ) → Words 64 r → ((k : ℕ) → k < 4096 → bitAt r k ≡ bitOf m f k)
+    → r ≡ pack m f
 pack-is m f r w h = words-same 64 r (pack m f) w (pack-words m f) (λ k l. h k l ∙ sym (bit-pack m f k l))
 
 -- 2 ^ m bits have room in 64 words
@@ -56,7 +57,8 @@ unpack-pack m f h =
     terms-same m (unpack m (pack m f)) f
     (λ k l.
     let s : k < 4096 = omega (arith, room m h) in
-    has-ofTerms m (bitAt (pack m f)) 0 k l ∙ ap (bitAt (pack m f)) (zero-add k) ∙ bit-pack m f k s ∙ bitOf-low m f k l)
+    has-ofTerms m (bitAt (pack m f)) 0 k l ∙ ap (bitAt (pack m f)) (zero-add k) ∙ bit-pack m f k s
+    ∙ bitOf-low m f k l)
 
 pub pack-inj : (m : ℕ) (f g : Form m) → m ≤ 12 → pack m f ≡ pack m g → f ≡ g
 pack-inj m f g h e = sym (unpack-pack m f h) ∙ ap (unpack m) e ∙ unpack-pack m g h
@@ -80,7 +82,8 @@ unfolding fits
 pack-unpack m ws w e =
     pack-is m (unpack m ws) ws w
     (λ k h.
-    only (ltb k (2 ^ m)) (bitAt ws k) (every-at (64 * length ws) (λ i. ltb i (2 ^ m) || not (bitAt ws i)) e k (omega (arith, w .long)))
+    only (ltb k (2 ^ m)) (bitAt ws k)
+    (every-at (64 * length ws) (λ i. ltb i (2 ^ m) || not (bitAt ws i)) e k (omega (arith, w .long)))
     ∙ sym (bit-unpack m ws k))
   where
     only : (a b : Bool) → (a || not b) ≡ true → b ≡ (a && b)
@@ -120,21 +123,24 @@ bit-more n f k = go (decLt k (2 ^ n)) (decLt k (2 ^ suc n))
   where
     go : Dec (k < 2 ^ n) → Dec (k < 2 ^ suc n) → bitOf (suc n) (f, constant n false) k ≡ bitOf n f k
     go (yes h) d =
-        bitOf-low (suc n) (f, constant n false) k (omega (arith, two-pow-succ n)) ∙ has-low n (f, constant n false) k h
+        bitOf-low (suc n) (f, constant n false) k (omega (arith, two-pow-succ n))
+        ∙ has-low n (f, constant n false) k h
         ∙ sym (bitOf-low n f k h)
     go (no h) (yes d) =
         let e : 2 ^ n + (k - 2 ^ n) ≡ k = omega arith in
         let l : k - 2 ^ n < 2 ^ n = omega (arith, two-pow-succ n) in
         bitOf-low (suc n) (f, constant n false) k d
         ∙ ap (λ x. has (suc n) (f, constant n false) (bit x)) (sym e)
-        ∙ has-high n (f, constant n false) (k - 2 ^ n) l ∙ has-false n (bit (k - 2 ^ n)) ∙ sym (bitOf-high n f k (omega arith))
+        ∙ has-high n (f, constant n false) (k - 2 ^ n) l ∙ has-false n (bit (k - 2 ^ n))
+        ∙ sym (bitOf-high n f k (omega arith))
     go (no h) (no d) = bitOf-high (suc n) (f, constant n false) k (omega arith) ∙ sym (bitOf-high n f k (omega arith))
 
 seen-self : (m : ℕ) (f : Form m) → seen m m f ≡ f
 seen-self m f = canonical m (seen m m f) f (λ ρ. value-seen m m f ρ (le-refl m))
 
 pub bit-seen : (m n : ℕ) (f : Form m) (k : ℕ) → m ≤ n → bitOf n (seen m n f) k ≡ bitOf m f k
-bit-seen m n f k h = le-ind (λ x. bitOf x (seen m x f) k ≡ bitOf m f k) (ap (λ g. bitOf m g k) (seen-self m f)) more n h
+bit-seen m n f k h =
+    le-ind (λ x. bitOf x (seen m x f) k ≡ bitOf m f k) (ap (λ g. bitOf m g k) (seen-self m f)) more n h
   where
     more : (x : ℕ) → m ≤ x → bitOf x (seen m x f) k ≡ bitOf m f k → bitOf (suc x) (seen m (suc x) f) k ≡ bitOf m f k
     more x l e = ap (λ g. bitOf (suc x) g k) (seen-more m x f l) ∙ bit-more x (seen m x f) k ∙ e
@@ -186,7 +192,8 @@ pack-by m f r l small bits =
 
 -- false is 64 words of zeros
 pub pack-false : (m : ℕ) → replicate 64 0 ≡ pack m (constant m false)
-pack-false m = pack-is m (constant m false) (replicate 64 0) (zero-words 64) (λ k h. zero-bit 64 k ∙ sym (bitOf-false m k))
+pack-false m =
+    pack-is m (constant m false) (replicate 64 0) (zero-words 64) (λ k h. zero-bit 64 k ∙ sym (bitOf-false m k))
 
 -- 64 words have room for 12 parameters, and for no more
 pub most-is : most ≡ 12

@@ -44,13 +44,16 @@ beq-same false false e = refl
 
 mask-bit : (p t : ℕ) → p < 6 → t < 64 → (leb (2 ^ p) t && bit (getD masks p 0) (t - 2 ^ p)) ≡ bit t p
 unfolding mask-right
-mask-bit p t h k = beq-same _ _ (every-at 64 (mask-right p) (every-at 6 (λ p. every 64 (mask-right p)) masks-right p h) t k)
+mask-bit p t h k =
+    beq-same _ _ (every-at 64 (mask-right p) (every-at 6 (λ p. every 64 (mask-right p)) masks-right p h) t k)
 
 -- place t of word i
 bitAt-word : (row : List ℕ) (i t : ℕ) → t < 64 → bitAt row (64 * i + t) ≡ bit (getD row i 0) t
 unfolding bitAt
 bitAt-word row i t h =
-    ap₂ (λ x y. bit (getD row x 0) y) (let e : (64 * i + t) / 64 ≡ i = omega arith in e) (let e : (64 * i + t) % 64 ≡ t = omega arith in e)
+    let word : (64 * i + t) / 64 ≡ i = omega arith in
+    let place : (64 * i + t) % 64 ≡ t = omega arith in
+    ap₂ (λ x y. bit (getD row x 0) y) word place
 
 -- what is added where a bit is set may be named by it
 guarded : (a x y : Bool) → (a ≡ true → x ≡ y) → (a && x) ≡ (a && y)
@@ -59,7 +62,8 @@ guarded false x y h = refl
 
 -- parameters inside a word
 pub pass-inside : (row : List ℕ) (p i : ℕ) → p < 6
-    → PassedWord row p i (bitXor (getD row i 0) ((bitAnd (getD row i 0) (getD masks p 0) * 2 ^ ((1 * 2 ^ p) % 2 ^ 64)) % 2 ^ 64))
+    → PassedWord row p i
+    (bitXor (getD row i 0) ((bitAnd (getD row i 0) (getD masks p 0) * 2 ^ ((1 * 2 ^ p) % 2 ^ 64)) % 2 ^ 64))
 unfolding passedBit
 pass-inside row p i h t k =
     let w : ℕ = getD row i 0 in
@@ -75,7 +79,8 @@ pass-inside row p i h t k =
     ∙ guarded (bit (64 * i + t) p) (bit w (t - s)) (bitAt row (64 * i + t - s))
     (λ e.
     let l : s ≤ t = bit-le t p (low ∙ e) in
-    sym (ap (bitAt row) (let q : 64 * i + t - s ≡ 64 * i + (t - s) = omega arith in q) ∙ bitAt-word row i (t - s) (omega arith))))
+    sym (ap (bitAt row) (let q : 64 * i + t - s ≡ 64 * i + (t - s) = omega arith in q)
+    ∙ bitAt-word row i (t - s) (omega arith))))
   where
     turn : (a b c : Bool) → (a && (b && c)) ≡ (a && c && b)
     turn a b c = ap (λ x. a && x) (and-comm b c) ∙ sym (and-assoc a c b)
@@ -111,13 +116,16 @@ pass-across row p i by h step e t k =
     let set : bit i (p - 6) ≡ true = bit-true i (p - 6) (ap (λ x. i / x % 2) (sym step) ∙ e) in
     let l : by ≤ i = odd-le i by e in
     let whole : 2 ^ p ≡ 64 * by
-    = ap (λ x. 2 ^ x) (let q : p ≡ 6 + (p - 6) = omega arith in q) ∙ pow-add 2 6 (p - 6) ∙ ap (λ x. 64 * x) (sym step) in
+    = ap (λ x. 2 ^ x) (let q : p ≡ 6 + (p - 6) = omega arith in q) ∙ pow-add 2 6 (p - 6)
+    ∙ ap (λ x. 64 * x) (sym step) in
     bit-xor (getD row i 0) (getD row (i - by) 0) t
     ∙ ap₂ _⊕_ (sym (bitAt-word row i t k))
     (sym (ap₂ _&&_ (across-bit i t p h k ∙ set)
-    (ap (bitAt row) (let q : 64 * i + t - 2 ^ p ≡ 64 * (i - by) + t = omega (arith, whole, l) in q) ∙ bitAt-word row (i - by) t k)))
+    (ap (bitAt row) (let q : 64 * i + t - 2 ^ p ≡ 64 * (i - by) + t = omega (arith, whole, l) in q)
+    ∙ bitAt-word row (i - by) t k)))
 
-pub pass-kept : (row : List ℕ) (p i by : ℕ) → 6 ≤ p → by ≡ 2 ^ (p - 6) → (i / by % 2 ≡ 1 → ⊥) → PassedWord row p i (getD row i 0)
+pub pass-kept : (row : List ℕ) (p i by : ℕ) → 6 ≤ p → by ≡ 2 ^ (p - 6) → (i / by % 2 ≡ 1 → ⊥)
+    → PassedWord row p i (getD row i 0)
 unfolding passedBit
 pass-kept row p i by h step e t k =
     sym (ap₂ (λ x b. x ⊕ (b && bitAt row (64 * i + t - 2 ^ p))) (bitAt-word row i t k)
@@ -125,8 +133,8 @@ pass-kept row p i by h step e t k =
     ∙ ⊕-false (bit (getD row i 0) t))
 
 -- word by word, the row
-pub passed-row : (row r : List ℕ) (p : ℕ) → length r ≡ 64 → ((i : ℕ) → i < 64 → (getD r i 0 < 2 ^ 64) × PassedWord row p i (getD r i 0))
-    → Passed row p r
+pub passed-row : (row r : List ℕ) (p : ℕ) → length r ≡ 64
+    → ((i : ℕ) → i < 64 → (getD r i 0 < 2 ^ 64) × PassedWord row p i (getD r i 0)) → Passed row p r
 passed-row row r p l h = record {
   words = words-of 64 r l (λ i n. h i n .0);
   bits = λ k n.
@@ -137,15 +145,18 @@ passed-row row r p l h = record {
   where
     bits-of : (k : ℕ) → k < 4096 → bitAt r k ≡ bit (getD r (k / 64) 0) (k % 64)
     bits-of k n =
-        ap (bitAt r) (let e : k ≡ 64 * (k / 64) + k % 64 = omega arith in e) ∙ bitAt-word r (k / 64) (k % 64) (omega arith)
+        ap (bitAt r) (let e : k ≡ 64 * (k / 64) + k % 64 = omega arith in e)
+        ∙ bitAt-word r (k / 64) (k % 64) (omega arith)
 
 -- a pass on a row is the pass on its form, where the form has all 4096 bits
-pub passed-form : (m : ℕ) (f : Form m) (row r : List ℕ) (p : ℕ) → 4096 ≤ 2 ^ m → p < m → row ≡ pack m f → Passed row p r
-    → r ≡ pack m (pass m p f)
+pub passed-form : (m : ℕ) (f : Form m) (row r : List ℕ) (p : ℕ) → 4096 ≤ 2 ^ m → p < m → row ≡ pack m f
+    → Passed row p r → r ≡ pack m (pass m p f)
 unfolding passedBit
 passed-form m f row r p wide h e made =
     pack-is m (pass m p f) r (made .words)
-    (λ k l. made .bits k l ∙ ap₂ _⊕_ (term k l) (guarded (bit k p) _ _ (λ s. term (k - 2 ^ p) (omega arith))) ∙ go k (bit k p) refl ∙ sym (bitOf-low m (pass m p f) k (omega arith)))
+    (λ k l.
+    made .bits k l ∙ ap₂ _⊕_ (term k l) (guarded (bit k p) _ _ (λ s. term (k - 2 ^ p) (omega arith)))
+    ∙ go k (bit k p) refl ∙ sym (bitOf-low m (pass m p f) k (omega arith)))
   where
     term : (k : ℕ) → k < 4096 → bitAt row k ≡ has m f (bit k)
     term k l = ap (λ x. bitAt x k) e ∙ bit-pack m f k l ∙ bitOf-low m f k (omega arith)
@@ -173,13 +184,15 @@ passed-more row r p i x e h small made sofar =
     (subst (λ y. (y < 2 ^ 64) × PassedWord row p i y) (sym (getD-set-same r i x 0 (omega arith))) (small, made))
 
 -- one pass more, at all 4096 bits
-pub truth-more : (f : Form most) (row r : List ℕ) (p : ℕ) → p < 12 → row ≡ pack most (passes most p f) → Passed row p r
-    → r ≡ pack most (passes most (p + 1) f)
+pub truth-more : (f : Form most) (row r : List ℕ) (p : ℕ) → p < 12 → row ≡ pack most (passes most p f)
+    → Passed row p r → r ≡ pack most (passes most (p + 1) f)
 unfolding passes
 truth-more f row r p h e made =
     passed-form most (passes most p f) row r p most-wide (subst (λ m. p < m) (sym most-is) h) e made
     ∙ ap (λ k. pack most (passes most k f)) (sym (add-one p))
 
-pub truth-done : (f : Form most) (r : List ℕ) (p : ℕ) → p ≤ 12 → 12 ≤ p → r ≡ pack most (passes most p f) → r ≡ pack most (truth most f)
+pub truth-done : (f : Form most) (r : List ℕ) (p : ℕ) → p ≤ 12 → 12 ≤ p → r ≡ pack most (passes most p f)
+    → r ≡ pack most (truth most f)
 truth-done f r p h l e =
-    e ∙ ap (pack most) (ap (λ k. passes most k f) (let q : p ≡ 12 = omega arith in q ∙ sym most-is) ∙ passes-truth most f)
+    e ∙ ap (pack most)
+    (ap (λ k. passes most k f) (let q : p ≡ 12 = omega arith in q ∙ sym most-is) ∙ passes-truth most f)

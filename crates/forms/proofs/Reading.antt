@@ -128,7 +128,8 @@ module _ (m : ℕ) (f : Form m) (row : List ℕ) (few : m ≤ 12) (e : row ≡ p
     -- no term
     pub read-false : (n : ℕ) → Next row 0 1 n → 1 ≤ n → False ≡ whichConstant m f
     read-false n first h =
-        which-false m f (pack-inj m f (constant m false) few (sym e ∙ pack-is m (constant m false) row row-words bits))
+        which-false m f
+        (pack-inj m f (constant m false) few (sym e ∙ pack-is m (constant m false) row row-words bits))
       where
         bits : (l : ℕ) → l < 4096 → bitAt row l ≡ bitOf m (constant m false) l
         bits zero b = first .none 0 (omega arith) (omega arith) ∙ sym (bitOf-false m 0)

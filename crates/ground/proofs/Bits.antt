@@ -3,7 +3,8 @@
 use mathlib.Core.Path.{_≡_, refl, sym, ap, _∙_}
 use mathlib.Core.Bool.{Bool, true, false, _&&_, _||_, true≢false}
 use Prim.Native.Nat.{ℕ, zero, suc, _+_, _-_, _*_, _/_, _%_, _^_, _≤_, _<_, min, max}
-use native.Mathlib.Nat.{mod-lt, div-eq-of-lt, div-one, pow-suc, mul-mod-left, mul-div-mul-right, one-mul, lt-of-lt-of-le}
+use native.Mathlib.Nat.{mod-lt, div-eq-of-lt, div-one, pow-suc}
+use native.Mathlib.Nat.{mul-mod-left, mul-div-mul-right, one-mul, lt-of-lt-of-le}
 use native.Mathlib.Decide.{decLt}
 use native.Mathlib.Omega.{arith}
 use lib.Dec.{eqb, leb, lit<, eqb·zero-suc, eqb·suc-zero, eqb·suc-suc}
@@ -40,15 +41,18 @@ module _ (op digit : ℕ → ℕ → ℕ) (f : Bool → Bool → Bool)
 
 pub bit-xor : (a b t : ℕ) → bit (bitXor a b) t ≡ bit a t ⊕ bit b t
 bit-xor = bit-op bitXor differ _⊕_ xor-shr xor-step
-    (two-digits (λ x y. (differ x y < 2) × (eqb (differ x y) 1 ≡ eqb x 1 ⊕ eqb y 1)) (lit< tt, refl) (lit< tt, refl) (lit< tt, refl) (lit< tt, refl))
+    (two-digits (λ x y. (differ x y < 2) × (eqb (differ x y) 1 ≡ eqb x 1 ⊕ eqb y 1))
+    (lit< tt, refl) (lit< tt, refl) (lit< tt, refl) (lit< tt, refl))
 
 pub bit-and : (a b t : ℕ) → bit (bitAnd a b) t ≡ (bit a t && bit b t)
 bit-and = bit-op bitAnd min _&&_ and-shr and-step
-    (two-digits (λ x y. (min x y < 2) × (eqb (min x y) 1 ≡ (eqb x 1 && eqb y 1))) (lit< tt, refl) (lit< tt, refl) (lit< tt, refl) (lit< tt, refl))
+    (two-digits (λ x y. (min x y < 2) × (eqb (min x y) 1 ≡ (eqb x 1 && eqb y 1)))
+    (lit< tt, refl) (lit< tt, refl) (lit< tt, refl) (lit< tt, refl))
 
 pub bit-or : (a b t : ℕ) → bit (bitOr a b) t ≡ (bit a t || bit b t)
 bit-or = bit-op bitOr max _||_ or-shr or-step
-    (two-digits (λ x y. (max x y < 2) × (eqb (max x y) 1 ≡ (eqb x 1 || eqb y 1))) (lit< tt, refl) (lit< tt, refl) (lit< tt, refl) (lit< tt, refl))
+    (two-digits (λ x y. (max x y < 2) × (eqb (max x y) 1 ≡ (eqb x 1 || eqb y 1)))
+    (lit< tt, refl) (lit< tt, refl) (lit< tt, refl) (lit< tt, refl))
 
 -- the code's test of a bit
 pub bit-true : (x t : ℕ) → x / 2 ^ t % 2 ≡ 1 → bit x t ≡ true
@@ -80,7 +84,8 @@ unfolding bit
 bit-low x n t h =
     let e : n - suc t + 1 + t ≡ n = omega arith in
     ap (λ y. eqb y 1)
-    (ap (λ k. x % 2 ^ k / 2 ^ t % 2) (sym e) ∙ ap (λ y. y % 2) (field x (n - suc t + 1) t) ∙ mod-mod-pow (x / 2 ^ t) (n - suc t) 1)
+    (ap (λ k. x % 2 ^ k / 2 ^ t % 2) (sym e) ∙ ap (λ y. y % 2) (field x (n - suc t + 1) t)
+    ∙ mod-mod-pow (x / 2 ^ t) (n - suc t) 1)
 
 -- what is shifted up by s has the bits from s on
 pub bit-shl : (x s t : ℕ) → bit (x * 2 ^ s) t ≡ (leb s t && bit x (t - s))
@@ -106,14 +111,18 @@ bit-le x t e = go (decLt x (2 ^ t))
 pub bit-pow : (s t : ℕ) → bit (2 ^ s) t ≡ eqb s t
 unfolding bit
 bit-pow zero zero = refl
-bit-pow zero (suc t) = rw (div-eq-of-lt {n = 1} {m = 2 ^ suc t} (pow-lt {i = 0} {j = suc t} (omega arith)), eqb·zero-suc t)
+bit-pow zero (suc t) =
+    rw (div-eq-of-lt {n = 1} {m = 2 ^ suc t} (pow-lt {i = 0} {j = suc t} (omega arith)), eqb·zero-suc t)
 bit-pow (suc s) zero = rw (div-one, pow-suc 2 s, mul-mod-left, eqb·suc-zero s)
-bit-pow (suc s) (suc t) = rw (pow-suc 2 s, pow-suc 2 t, mul-div-mul-right {m = 2} (2 ^ s) (2 ^ t) (omega arith), eqb·suc-suc s t) (bit-pow s t)
+bit-pow (suc s) (suc t) =
+    rw (pow-suc 2 s, pow-suc 2 t, mul-div-mul-right {m = 2} (2 ^ s) (2 ^ t) (omega arith), eqb·suc-suc s t)
+    (bit-pow s t)
 
 -- one bit more than a number below it
 pub bit-plus : (m x t : ℕ) → x < 2 ^ m → bit (2 ^ m + x) t ≡ eqb m t ⊕ bit x t
 bit-plus m x t h =
-    ap (λ y. bit y t) (ap (λ y. y + x) (sym (one-mul (2 ^ m))) ∙ sym (xor-shifted 1 m x h) ∙ ap (λ y. bitXor y x) (one-mul (2 ^ m)))
+    ap (λ y. bit y t)
+    (ap (λ y. y + x) (sym (one-mul (2 ^ m))) ∙ sym (xor-shifted 1 m x h) ∙ ap (λ y. bitXor y x) (one-mul (2 ^ m)))
     ∙ bit-xor (2 ^ m) x t ∙ ap (λ y. y ⊕ bit x t) (bit-pow m t)
 
 -- the code's 1 << s

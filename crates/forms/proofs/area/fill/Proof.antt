@@ -1,5 +1,6 @@
 -- `forms::area::fill` puts a row at count places from base on. The loop's invariant: the words below k are as they
--- are to be, and those from k on are as they were. The measure is what is left of the words to write. Assumes nothing.
+-- are to be, and those from k on are as they were. The measure is what is left of the words to write.
+-- Assumes nothing.
 use mathlib.Core.Path.{_≡_, refl, sym, _∙_}
 use mathlib.Core.Logic.{⊎-elim, inl, inr}
 use Prim.Native.Nat.{ℕ, _-_, _%_, _≤_, _<_}

@@ -1,5 +1,5 @@
--- `forms::area::load` gives the row at a place. The loop's invariant: the words of the row below k are the area's, and
--- those from k on are zero. The measure is what is left of the words to read. Assumes nothing.
+-- `forms::area::load` gives the row at a place. The loop's invariant: the words of the row below k are the area's,
+-- and those from k on are zero. The measure is what is left of the words to read. Assumes nothing.
 use mathlib.Core.Path.{_≡_, refl, sym, ap, _∙_}
 use mathlib.Core.Logic.{⊎-elim}
 use Prim.Native.Nat.{ℕ, _+_, _-_, _*_, _%_, _≤_, _<_}

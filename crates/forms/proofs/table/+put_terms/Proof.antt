@@ -71,19 +71,20 @@ shl-half t c = search needs
 put-terms-requires : (t : ℕ) → put-terms-lts.Need-put-terms-requires (told t) (put-terms-at t) put-terms.Post
 put-terms-requires t c κs =
     let at = c .before .before .before in
-    (omega arith, (omega arith, halves-fit _ _ _ (c .if2 .left) (one-shl (at .args .p - 1) (omega arith)) (at .pre .1 .1) .0))
+    let fit = halves-fit _ _ _ (c .if2 .left) (one-shl (at .args .p - 1) (omega arith)) (at .pre .1 .1) in
+    (omega arith, (omega arith, fit .0))
 
 add-put-terms : (t : ℕ) → put-terms-lts.Need-add-put-terms (told t) (put-terms-at t) put-terms.Post
 add-put-terms t c =
     let at = c .before .before .before .before in
-    omega (arith, halves-fit _ _ _ (c .before .if2 .left) (one-shl (at .args .p - 1) (omega arith)) (at .pre .1 .1) .1)
+    let fit = halves-fit _ _ _ (c .before .if2 .left) (one-shl (at .args .p - 1) (omega arith)) (at .pre .1 .1) in
+    omega (arith, fit .1)
 
 put-terms-requires-2 : (t : ℕ) → put-terms-lts.Need-put-terms-requires-2 (told t) (put-terms-at t) put-terms.Post
 put-terms-requires-2 t c κs =
-    let at = c .before .before .before .before in (
-      omega arith,
-      (omega arith, halves-fit _ _ _ (c .before .if2 .left) (one-shl (at .args .p - 1) (omega arith)) (at .pre .1 .1) .1),
-    )
+    let at = c .before .before .before .before in
+    let fit = halves-fit _ _ _ (c .before .if2 .left) (one-shl (at .args .p - 1) (omega arith)) (at .pre .1 .1) in
+    (omega arith, (omega arith, fit .1))
 
 mix-requires : (t : ℕ) → put-terms-lts.Need-mix-requires (told t) (put-terms-at t) put-terms.Post
 mix-requires t c κs = search needs
