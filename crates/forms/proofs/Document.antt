@@ -2,16 +2,16 @@
 -- Assumes nothing.
 use mathlib.Core.Path.{_≡_, refl, sym, ap, ap₂, _∙_}
 use mathlib.Core.Bool.{Bool, true, false, not, _&&_, _||_, cond, and-true, and-false, and-comm, and-assoc}
+use mathlib.Core.Logic.{⊎-elim}
 use Prim.Native.Nat.{ℕ, _^_, _≤_, _<_}
 use native.Mathlib.Nat.{zero-add}
-use native.Mathlib.Decide.{decLt}
 use native.Mathlib.Omega.{arith}
 use lib.Bits.{bitOr, or-lt}
 use lib.Dec.{eqb}
 use borrow.Author.Tests.{eq-eqb, ne-eqb, lt-ltb, le-ltb}
 use Rattle.ground.specs.Fold.{_⊕_, fold, parity}
 use Rattle.ground.specs.Bits.{bit}
-use Rattle.ground.proofs.Folds.{fold-cong, fold-none, fold-both, fold-through}
+use Rattle.ground.proofs.Folds.{less-or-not, fold-cong, fold-none, fold-both, fold-through}
 use Rattle.ground.proofs.Folds.{parity-and, parity-swap, parity-cong, parity-one}
 use Rattle.ground.proofs.Bits.{bit-or}
 use Rattle.forms.specs.Form.{Form, constant, xor, and, putIn, value, has}
@@ -112,7 +112,12 @@ conjunction-is m f g =
 -- `and` is document 000's, at every bit
 pub and-document : (m : ℕ) (f g : Form m) (k : ℕ) → bitOf m (and m f g) k ≡ conjunct m f g k
 unfolding conjunction conjunct
-and-document m f g k = go (decLt k (2 ^ m))
+and-document m f g k =
+    ⊎-elim
+    (λ h.
+    bitOf-low m (and m f g) k h ∙ ap (λ x. has m x (bit k)) (sym (conjunction-is m f g))
+    ∙ has-ofTerms m (conjunct m f g) 0 k h ∙ ap (conjunct m f g) (zero-add k))
+    (λ h. bitOf-high m (and m f g) k h ∙ sym (none h)) (less-or-not k (2 ^ m))
   where
     none : 2 ^ m ≤ k → conjunct m f g k ≡ false
     none h =
@@ -122,12 +127,6 @@ and-document m f g k = go (decLt k (2 ^ m))
         (λ j n.
         ap (λ b. b && (bitOf m f i && bitOf m g j))
         (ne-eqb (bitOr i j) k (λ e. let z : ⊥ = omega (arith, or-lt m i j l n) in z))))
-
-    go : Dec (k < 2 ^ m) → bitOf m (and m f g) k ≡ conjunct m f g k
-    go (yes h) =
-        bitOf-low m (and m f g) k h ∙ ap (λ x. has m x (bit k)) (sym (conjunction-is m f g))
-        ∙ has-ofTerms m (conjunct m f g) 0 k h ∙ ap (conjunct m f g) (zero-add k)
-    go (no h) = bitOf-high m (and m f g) k (omega arith) ∙ sym (none (omega arith))
 
 -- what a term's parameters make together
 term-putIn : (m n i : ℕ) (σ : ℕ → Form n) (ρ : ℕ → Bool)

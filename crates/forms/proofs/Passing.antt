@@ -2,11 +2,11 @@
 -- Assumes nothing.
 use mathlib.Core.Path.{_≡_, refl, sym, ap, ap₂, _∙_, subst}
 use mathlib.Core.Bool.{Bool, true, false, _&&_, Bool·beq, and-assoc, and-comm, false≢true}
+use mathlib.Core.Logic.{⊎-elim}
 use mathlib.Core.List.{List}
 use Prim.Native.Nat.{ℕ, _+_, _-_, _*_, _/_, _%_, _^_, _≤_, _<_}
 use native.Mathlib.Nat.{div-eq-of-lt}
 use native.Mathlib.Numerals.{add-one}
-use native.Mathlib.Decide.{decLt}
 use native.Mathlib.Omega.{arith}
 use lib.ListN.{length, getD, set}
 use lib.Seq.{getD-set-same, getD-set-other}
@@ -18,7 +18,7 @@ use borrow.Author.Tests.{eq-eqb, ne-eqb}
 use Rattle.ground.specs.Fold.{_⊕_, fold, every}
 use Rattle.ground.specs.Bits.{bit, bitAt}
 use Rattle.ground.proofs.Xor.{⊕-false}
-use Rattle.ground.proofs.Folds.{every-at}
+use Rattle.ground.proofs.Folds.{less-or-not, every-at}
 use Rattle.ground.proofs.Bits.{bit-xor, bit-and, bit-shr, bit-shl, bit-low, bit-le, bit-true, bit-false, one-shl}
 use Rattle.ground.proofs.Numbers.{bit-minus, words-of}
 use Rattle.forms.specs.Form.{Form, has, truth}
@@ -97,11 +97,9 @@ step-pos p h = subst (λ x. 0 < x) (sym (one-shl p h)) (pow-pos p)
 
 -- where a quotient is odd, the divisor is no more than the number
 pub odd-le : (i by : ℕ) → i / by % 2 ≡ 1 → by ≤ i
-odd-le i by e = go (decLt i by)
-  where
-    go : Dec (i < by) → by ≤ i
-    go (yes l) = let z : i / by ≡ 0 = div-eq-of-lt l in let y : ⊥ = omega arith in absurd y
-    go (no l) = omega arith
+odd-le i by e =
+    ⊎-elim (λ l. let z : i / by ≡ 0 = div-eq-of-lt l in let y : ⊥ = omega arith in absurd y) (λ l. l)
+    (less-or-not i by)
 
 -- parameters across words
 across-bit : (i t p : ℕ) → 6 ≤ p → t < 64 → bit (64 * i + t) p ≡ bit i (p - 6)

@@ -2,14 +2,14 @@
 -- Assumes nothing.
 use mathlib.Core.Path.{_≡_, refl, sym, ap, ap₂, _∙_, subst}
 use mathlib.Core.Bool.{Bool, true, false, not, _&&_, _||_, cond, and-true, and-comm, and-assoc}
+use mathlib.Core.Logic.{⊎-elim}
 use Prim.Native.Nat.{ℕ, zero, suc, _+_, _-_, _^_, _<_}
 use native.Mathlib.Nat.{two-pow-succ, add-assoc}
-use native.Mathlib.Decide.{decLt}
 use native.Mathlib.Omega.{arith}
 use borrow.Author.Tests.{eq-eqb, ne-eqb}
 use Rattle.ground.specs.Fold.{_⊕_, fold, every, parity}
 use Rattle.ground.specs.Bits.{bit}
-use Rattle.ground.proofs.Folds.{fold-cong, parity-and, parity-halves, parity-cong}
+use Rattle.ground.proofs.Folds.{less-or-not, fold-cong, parity-and, parity-halves, parity-cong}
 use Rattle.ground.proofs.Bits.{bit-plus, bit-over}
 use Rattle.forms.specs.Form.{Form, constant, xor, value, has}
 use Rattle.forms.specs.Words.{ofTerms}
@@ -76,13 +76,12 @@ terms-same (suc m) f g h =
 -- what holds of each half of the numbers below 2 ^ (m + 1) holds of all
 pub by-halves : (P : ℕ → Type 0) (m : ℕ) → ((k : ℕ) → k < 2 ^ m → P k) → ((k : ℕ) → k < 2 ^ m → P (2 ^ m + k))
     → (k : ℕ) → k < 2 ^ suc m → P k
-by-halves P m low high k h = go (decLt k (2 ^ m))
-  where
-    go : Dec (k < 2 ^ m) → P k
-    go (yes l) = low k l
-    go (no l) =
-        let e : 2 ^ m + (k - 2 ^ m) ≡ k = omega arith in
-        subst P e (high (k - 2 ^ m) (omega (arith, two-pow-succ m)))
+by-halves P m low high k h =
+    ⊎-elim (low k)
+    (λ l.
+    let e : 2 ^ m + (k - 2 ^ m) ≡ k = omega arith in
+    subst P e (high (k - 2 ^ m) (omega (arith, two-pow-succ m))))
+    (less-or-not k (2 ^ m))
 
 pub has-ofTerms : (m : ℕ) (g : ℕ → Bool) (from k : ℕ) → k < 2 ^ m → has m (ofTerms m g from) (bit k) ≡ g (from + k)
 unfolding has ofTerms

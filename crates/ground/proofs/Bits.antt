@@ -2,10 +2,10 @@
 -- Assumes nothing.
 use mathlib.Core.Path.{_≡_, refl, sym, ap, _∙_}
 use mathlib.Core.Bool.{Bool, true, false, _&&_, _||_, true≢false}
+use mathlib.Core.Logic.{⊎-elim}
 use Prim.Native.Nat.{ℕ, zero, suc, _+_, _-_, _*_, _/_, _%_, _^_, _≤_, _<_, min, max}
 use native.Mathlib.Nat.{mod-lt, div-eq-of-lt, div-one, pow-suc}
 use native.Mathlib.Nat.{mul-mod-left, mul-div-mul-right, one-mul, lt-of-lt-of-le}
-use native.Mathlib.Decide.{decLt}
 use native.Mathlib.Omega.{arith}
 use lib.Dec.{eqb, leb, lit<, eqb·zero-suc, eqb·suc-zero, eqb·suc-suc}
 use lib.Pow.{pow-pos, pow-lt, pow-mono, shr-shr, shl-shr, field, mod-mod-pow, shl-exact}
@@ -13,6 +13,7 @@ use lib.Bits.{bitAnd, bitOr, bitXor, differ, and-shr, or-shr, xor-shr, and-step,
 use borrow.Author.Tests.{le-leb, lt-leb, eq-eqb, ne-eqb}
 use Rattle.ground.specs.Fold.{_⊕_}
 use Rattle.ground.specs.Bits.{bit}
+use Rattle.ground.proofs.Folds.{less-or-not}
 
 -- what holds of 0 and 1 holds of two digits
 two-digits : (P : ℕ → ℕ → Type 0) → P 0 0 → P 0 1 → P 1 0 → P 1 1 → (x y : ℕ) → x < 2 → y < 2 → P x y
@@ -89,24 +90,20 @@ bit-low x n t h =
 
 -- what is shifted up by s has the bits from s on
 pub bit-shl : (x s t : ℕ) → bit (x * 2 ^ s) t ≡ (leb s t && bit x (t - s))
-bit-shl x s t = go (decLt t s)
-  where
-    go : Dec (t < s) → bit (x * 2 ^ s) t ≡ (leb s t && bit x (t - s))
-    go (yes h) =
-        sym (bit-low (x * 2 ^ s) s t h) ∙ ap (λ y. bit y t) (mul-mod-left x (2 ^ s)) ∙ bit-zero t
-        ∙ sym (ap (λ b. b && bit x (t - s)) (lt-leb s t h))
-    go (no h) =
-        let e : s + (t - s) ≡ t = omega arith in
-        ap (bit (x * 2 ^ s)) (sym e) ∙ sym (bit-shr (x * 2 ^ s) s (t - s)) ∙ ap (λ y. bit y (t - s)) (shl-shr x s)
-        ∙ sym (ap (λ b. b && bit x (t - s)) (le-leb s t (omega arith)))
+bit-shl x s t =
+    ⊎-elim
+    (λ h.
+    sym (bit-low (x * 2 ^ s) s t h) ∙ ap (λ y. bit y t) (mul-mod-left x (2 ^ s)) ∙ bit-zero t
+    ∙ sym (ap (λ b. b && bit x (t - s)) (lt-leb s t h)))
+    (λ h.
+    let e : s + (t - s) ≡ t = omega arith in
+    ap (bit (x * 2 ^ s)) (sym e) ∙ sym (bit-shr (x * 2 ^ s) s (t - s)) ∙ ap (λ y. bit y (t - s)) (shl-shr x s)
+    ∙ sym (ap (λ b. b && bit x (t - s)) (le-leb s t h)))
+    (less-or-not t s)
 
 -- a number with bit t is 2 ^ t or more
 pub bit-le : (x t : ℕ) → bit x t ≡ true → 2 ^ t ≤ x
-bit-le x t e = go (decLt x (2 ^ t))
-  where
-    go : Dec (x < 2 ^ t) → 2 ^ t ≤ x
-    go (yes h) = absurd (true≢false (sym e ∙ bit-over x t h))
-    go (no h) = omega arith
+bit-le x t e = ⊎-elim (λ h. absurd (true≢false (sym e ∙ bit-over x t h))) (λ h. h) (less-or-not x (2 ^ t))
 
 pub bit-pow : (s t : ℕ) → bit (2 ^ s) t ≡ eqb s t
 unfolding bit

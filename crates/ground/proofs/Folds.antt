@@ -2,7 +2,7 @@
 -- Assumes nothing.
 use mathlib.Core.Path.{_≡_, refl, sym, ap, ap₂, _∙_}
 use mathlib.Core.Bool.{Bool, true, false, _&&_, _||_, and-false, or-true, true≢false}
-use mathlib.Core.Logic.{_⊎_, ⊎-elim, _≢_}
+use mathlib.Core.Logic.{_⊎_, inl, inr, ⊎-elim, _≢_}
 use Prim.Native.Nat.{ℕ, zero, suc, _+_, _^_, _≤_, _<_}
 use native.Mathlib.Nat.{add-zero, add-suc, eq-or-lt-of-le, le-of-suc-le-suc, two-pow-succ}
 use native.Mathlib.Decide.{decLt}
@@ -13,6 +13,14 @@ use Rattle.ground.proofs.Xor.{⊕-false, ⊕-assoc, ⊕-comm, &&-⊕}
 -- of i below n + 1, i is n or below n
 pub last-or-less : {i n : ℕ} → i < suc n → (i ≡ n) ⊎ (i < n)
 last-or-less h = eq-or-lt-of-le (le-of-suc-le-suc h)
+
+-- i is below n, or not
+pub less-or-not : (i n : ℕ) → (i < n) ⊎ (n ≤ i)
+less-or-not i n = go (decLt i n)
+  where
+    go : Dec (i < n) → (i < n) ⊎ (n ≤ i)
+    go (yes l) = inl l
+    go (no l) = inr (omega arith)
 
 module _ {A : Type 0} (op : A → A → A) (e : A) where
   pub fold-cong : (n : ℕ) (g h : ℕ → A) → ((i : ℕ) → i < n → g i ≡ h i) → fold op e n g ≡ fold op e n h
@@ -41,12 +49,12 @@ module _ {A : Type 0} (op : A → A → A) (e : A) where
         → fold op e n g ≡ fold op e k g
     unfolding fold
     fold-skip zero g k h p = let q : k ≡ 0 = omega arith in ap (λ x. fold op e x g) (sym q)
-    fold-skip (suc n) g k h p = go (decLt n k) (λ l. fold-skip n g k l (λ i a b. p i a (omega arith)))
-      where
-        go : Dec (n < k) → (k ≤ n → fold op e n g ≡ fold op e k g) → op (fold op e n g) (g n) ≡ fold op e k g
-        go (yes l) r = let q : suc n ≡ k = omega arith in ap (λ x. fold op e x g) q
-        go (no l) r =
-            ap (op (fold op e n g)) (p n (omega arith) (omega arith)) ∙ unit (fold op e n g) ∙ r (omega arith)
+    fold-skip (suc n) g k h p =
+        ⊎-elim (λ l. let q : suc n ≡ k = omega arith in ap (λ x. fold op e x g) q)
+        (λ l.
+        ap (op (fold op e n g)) (p n l (omega arith)) ∙ unit (fold op e n g)
+        ∙ fold-skip n g k l (λ i a b. p i a (omega arith)))
+        (less-or-not n k)
 
     pub fold-add : ((x y z : A) → op (op x y) z ≡ op x (op y z)) → (a b : ℕ) (g : ℕ → A)
         → fold op e (a + b) g ≡ op (fold op e a g) (fold op e b (λ i. g (a + i)))

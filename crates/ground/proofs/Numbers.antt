@@ -7,7 +7,6 @@ use mathlib.Core.List.{List}
 use Prim.Native.Nat.{ℕ, zero, suc, _+_, _-_, _*_, _/_, _%_, _^_, _≤_, _<_}
 use native.Mathlib.Nat.{mod-lt, mod-one, mod-eq-of-lt, two-pow-succ, zero-add, lt-of-le-of-lt}
 use native.Mathlib.Numerals.{one-add}
-use native.Mathlib.Decide.{decLt}
 use native.Mathlib.Omega.{arith}
 use lib.Dec.{eqb, lit<}
 use lib.ListN.{length, getD, replicate, length-replicate, List·getD-eq-default}
@@ -18,7 +17,7 @@ use borrow.Author.Tests.{eq-eqb, ne-eqb, eqb-true, eqb-false}
 use Rattle.ground.specs.Fold.{_⊕_}
 use Rattle.ground.specs.Bits.{bit, ofBits, bitAt, Words}
 use Rattle.ground.proofs.Xor.{⊕-comm}
-use Rattle.ground.proofs.Folds.{last-or-less}
+use Rattle.ground.proofs.Folds.{last-or-less, less-or-not}
 use Rattle.ground.proofs.Bits.{bit-xor, bit-and, bit-pow, bit-plus, bit-over, bit-zero}
 
 -- two digits with the same test
@@ -102,13 +101,12 @@ bit-ones n t h =
 
 -- a list of n small numbers is n words
 pub words-of : (n : ℕ) (ws : List ℕ) → length ws ≡ n → ((i : ℕ) → i < n → getD ws i 0 < 2 ^ 64) → Words n ws
-words-of n ws l h = record { long = l; small = λ i. go i (decLt i n) }
+words-of n ws l h = record { long = l; small = λ i. ⊎-elim (h i) (past i) (less-or-not i n) }
   where
-    go : (i : ℕ) → Dec (i < n) → getD ws i 0 < 2 ^ 64
-    go i (yes k) = h i k
-    go i (no k) =
-        subst (λ x. x < 2 ^ 64) (sym (List·getD-eq-default ws 0 (let e : length ws ≤ i = omega arith in e)))
-        (pow-pos 64)
+    past : (i : ℕ) → n ≤ i → getD ws i 0 < 2 ^ 64
+    past i k =
+        let e : length ws ≤ i = omega arith in
+        subst (λ x. x < 2 ^ 64) (sym (List·getD-eq-default ws 0 e)) (pow-pos 64)
 
 -- n words are their 64 n bits
 pub words-same : (n : ℕ) (a b : List ℕ) → Words n a → Words n b → ((k : ℕ) → k < 64 * n → bitAt a k ≡ bitAt b k)

@@ -8,9 +8,10 @@ use native.Mathlib.Omega.{arith}
 use lib.ListN.{length, getD}
 use lib.Seq.{ext-getD, getD-set-other}
 use borrow.Author.Needs.{needs}
+use Rattle.ground.proofs.Folds.{less-or-not}
 use Rattle.ground.proofs.Tabs.{filled-more}
 use Rattle.forms.specs.Area.{putRows}
-use Rattle.forms.proofs.Areas.{less-or-not, length-putRows, word-put, word-kept}
+use Rattle.forms.proofs.Areas.{length-putRows, word-put, word-kept}
 use Rattle.forms.proofs.area.fill.Statement.{statement}
 use Rattle.forms.proofs.area.fill.Tie as tie
 

@@ -7,9 +7,9 @@ use native.Mathlib.Omega.{arith}
 use lib.ListN.{length, getD, getD-replicate, List·getD-eq-default}
 use lib.Seq.{getD-set-other}
 use borrow.Author.Needs.{needs}
+use Rattle.ground.proofs.Folds.{less-or-not}
 use Rattle.ground.proofs.Tabs.{filled-more, tab-is}
 use Rattle.forms.specs.Area.{rowAt}
-use Rattle.forms.proofs.Areas.{less-or-not}
 use Rattle.forms.proofs.area.load.Statement.{statement}
 use Rattle.forms.proofs.area.load.Tie as tie
 
