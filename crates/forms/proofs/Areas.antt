@@ -5,24 +5,16 @@ use mathlib.Core.Bool.{true, false, _&&_, and-false, cond}
 use mathlib.Core.Logic.{_⊎_, inl, inr, ⊎-elim}
 use mathlib.Core.List.{List}
 use Prim.Native.Nat.{ℕ, suc, _+_, _-_, _*_, _/_, _%_, _^_, _≤_, _<_}
-use native.Mathlib.Decide.{decLt}
 use native.Mathlib.Omega.{arith}
 use lib.Dec.{leb, ltb, lit<}
 use lib.ListN.{length, getD, replicate, List·getD-eq-default}
 use lib.Seq.{ext-getD}
 use borrow.Author.Tests.{lt-ltb, le-ltb, le-leb, lt-leb}
 use Rattle.ground.specs.Bits.{Words}
+use Rattle.ground.proofs.Folds.{less-or-not}
 use Rattle.ground.proofs.Tabs.{length-tab, getD-tab, getD-tab-out, tab-is, tab-cong}
 use Rattle.ground.proofs.Numbers.{zero-at}
 use Rattle.forms.specs.Area.{rowAt, putRows}
-
--- i is below n, or not
-pub less-or-not : (i n : ℕ) → (i < n) ⊎ (n ≤ i)
-less-or-not i n = go (decLt i n)
-  where
-    go : Dec (i < n) → (i < n) ⊎ (n ≤ i)
-    go (yes l) = inl l
-    go (no l) = inr (omega arith)
 
 -- the place is not among the count places from base on
 abbrev pub Outside : ℕ → ℕ → ℕ → Type 0

@@ -1,19 +1,19 @@
 -- What a form depends on: by its values, through the operations, and by the parameters that it names.
 -- Assumes nothing.
 use mathlib.Core.Path.{_≡_, refl, sym, ap, ap₂, _∙_, subst}
-use mathlib.Core.Bool.{Bool, true, false, not, _&&_, _||_, cond, and-true, and-false, true≢false}
-use Prim.Native.Nat.{ℕ, zero, suc, _^_, _≤_, _<_}
+use mathlib.Core.Bool.{Bool, true, false, not, _&&_, _||_, cond, and-false, true≢false}
+use Prim.Native.Nat.{ℕ, zero, suc, _^_, _<_}
 use native.Mathlib.Decide.{decLt}
 use native.Mathlib.Omega.{arith}
 use lib.Dec.{eqb}
 use borrow.Author.Tests.{eq-eqb, ne-eqb, eqb-true, eqb-false}
-use Rattle.ground.specs.Fold.{_⊕_, fold, some}
+use Rattle.ground.specs.Fold.{_⊕_}
 use Rattle.ground.specs.Bits.{bit}
-use Rattle.ground.proofs.Xor.{⊕-false}
 use Rattle.ground.proofs.Folds.{fold-cong, parity-cong, some-at, some-none}
 use Rattle.ground.proofs.Bits.{bit-above}
 use Rattle.forms.specs.Form.{Form, constant, parameter, xor, and, or, putIn, value, DependsOn, has, names}
-use Rattle.forms.proofs.Values.{pairs, value-agree, value-constant, value-parameter, value-xor, value-and, value-putIn, canonical}
+use Rattle.forms.proofs.Values.{value-agree, value-constant, value-parameter}
+use Rattle.forms.proofs.Values.{value-xor, value-and, value-putIn, canonical}
 use Rattle.forms.proofs.Terms.{picked, has-false, termValue, value-terms}
 
 -- a form with one value everywhere is the constant
@@ -26,7 +26,9 @@ depends-none m f h = constant-is m f (value m f (λ j. false)) (λ ρ. h ρ (λ 
 
 -- putting in leaves a constant as it is
 pub putIn-constant : (m n : ℕ) (b : Bool) (σ : ℕ → Form n) → putIn m n (constant m b) σ ≡ constant n b
-putIn-constant m n b σ = constant-is n (putIn m n (constant m b) σ) b (λ ρ. value-putIn m n (constant m b) σ ρ ∙ value-constant m b (λ j. value n (σ j) ρ))
+putIn-constant m n b σ =
+    constant-is n (putIn m n (constant m b) σ) b
+    (λ ρ. value-putIn m n (constant m b) σ ρ ∙ value-constant m b (λ j. value n (σ j) ρ))
 
 -- through the operations
 module _ (S : ℕ → Type 0) (m : ℕ) where
@@ -50,14 +52,16 @@ module _ (S : ℕ → Type 0) (m : ℕ) where
   pub depends-putIn : (k : ℕ) (S′ : ℕ → Type 0) (f : Form k) (σ : ℕ → Form m) → DependsOn S′ k f
       → ((j : ℕ) → S′ j → DependsOn S m (σ j)) → DependsOn S m (putIn k m f σ)
   depends-putIn k S′ f σ a b ρ ρ′ h =
-      value-putIn k m f σ ρ ∙ a (λ j. value m (σ j) ρ) (λ j. value m (σ j) ρ′) (λ j s. b j s ρ ρ′ h) ∙ sym (value-putIn k m f σ ρ′)
+      value-putIn k m f σ ρ ∙ a (λ j. value m (σ j) ρ) (λ j. value m (σ j) ρ′) (λ j s. b j s ρ ρ′ h)
+      ∙ sym (value-putIn k m f σ ρ′)
 
 -- what is put in for a parameter that the form does not depend on does not matter
-pub putIn-same : (S : ℕ → Type 0) (m n : ℕ) (f : Form m) (σ τ : ℕ → Form n) → DependsOn S m f → ((j : ℕ) → S j → σ j ≡ τ j)
-    → putIn m n f σ ≡ putIn m n f τ
+pub putIn-same : (S : ℕ → Type 0) (m n : ℕ) (f : Form m) (σ τ : ℕ → Form n) → DependsOn S m f
+    → ((j : ℕ) → S j → σ j ≡ τ j) → putIn m n f σ ≡ putIn m n f τ
 putIn-same S m n f σ τ d e =
     canonical n (putIn m n f σ) (putIn m n f τ)
-    (λ ρ. value-putIn m n f σ ρ ∙ d (λ j. value n (σ j) ρ) (λ j. value n (τ j) ρ) (λ j s. ap (λ x. value n x ρ) (e j s))
+    (λ ρ.
+    value-putIn m n f σ ρ ∙ d (λ j. value n (σ j) ρ) (λ j. value n (τ j) ρ) (λ j s. ap (λ x. value n x ρ) (e j s))
     ∙ sym (value-putIn m n f τ ρ))
 
 -- a form depends only on the parameters that it names
@@ -68,7 +72,8 @@ depends-names m f ρ ρ′ h =
     ∙ parity-cong (2 ^ m) _ _ (λ k l. go k l (has m f (bit k)) refl)
     ∙ sym (value-terms m f ρ′)
   where
-    place : (k j : ℕ) → k < 2 ^ m → has m f (bit k) ≡ true → (b : Bool) → bit k j ≡ b → (not b || ρ j) ≡ (not b || ρ′ j)
+    place : (k j : ℕ) → k < 2 ^ m → has m f (bit k) ≡ true → (b : Bool) → bit k j ≡ b
+        → (not b || ρ j) ≡ (not b || ρ′ j)
     place k j l t true e = h j (some-at (2 ^ m) (λ i. bit i j && has m f (bit i)) k l (ap₂ _&&_ e t))
     place k j l t false e = refl
 
@@ -76,7 +81,8 @@ depends-names m f ρ ρ′ h =
         → (has m f (bit k) && termValue m k ρ) ≡ (has m f (bit k) && termValue m k ρ′)
     go k l true e =
         ap (λ x. has m f (bit k) && x)
-        (fold-cong _&&_ true m (λ j. not (bit k j) || ρ j) (λ j. not (bit k j) || ρ′ j) (λ j n. place k j l e (bit k j) refl))
+        (fold-cong _&&_ true m (λ j. not (bit k j) || ρ j) (λ j. not (bit k j) || ρ′ j)
+        (λ j n. place k j l e (bit k j) refl))
     go k l false e = ap (λ b. b && termValue m k ρ) e ∙ sym (ap (λ b. b && termValue m k ρ′) e)
 
 -- f without its terms with parameter j
@@ -101,13 +107,17 @@ unfolding without value
 value-without zero j f ρ = refl
 value-without (suc m) j f ρ = go (eqb j m) refl (value-without m j (f .0) ρ) (value-without m j (f .1) ρ)
   where
-    go : (b : Bool) → eqb j m ≡ b → value m (without m j (f .0)) ρ ≡ value m (f .0) (unset ρ j) → value m (without m j (f .1)) ρ ≡ value m (f .1) (unset ρ j)
+    go : (b : Bool) → eqb j m ≡ b → value m (without m j (f .0)) ρ ≡ value m (f .0) (unset ρ j)
+        → value m (without m j (f .1)) ρ ≡ value m (f .1) (unset ρ j)
         → value (suc m) (cond b (f .0, constant m false) (without m j (f .0), without m j (f .1))) ρ
         ≡ value m (f .0) (unset ρ j) ⊕ (unset ρ j m && value m (f .1) (unset ρ j))
     go true e p q =
         let l : j ≡ m = eqb-true j m e in
-        ap₂ _⊕_ (sym (value-agree m (f .0) (unset ρ j) ρ (λ i n. unset-other ρ j i (λ x. let z : ⊥ = omega arith in z))))
-        (ap (λ b. ρ m && b) (value-constant m false ρ) ∙ and-false (ρ m) ∙ sym (ap (λ b. b && value m (f .1) (unset ρ j)) (unset-at ρ j m (sym l))))
+        let low : value m (f .0) (unset ρ j) ≡ value m (f .0) ρ
+        = value-agree m (f .0) (unset ρ j) ρ (λ i n. unset-other ρ j i (λ x. let z : ⊥ = omega arith in z)) in
+        ap₂ _⊕_ (sym low)
+        (ap (λ b. ρ m && b) (value-constant m false ρ) ∙ and-false (ρ m)
+        ∙ sym (ap (λ b. b && value m (f .1) (unset ρ j)) (unset-at ρ j m (sym l))))
     go false e p q =
         ap₂ _⊕_ p (ap₂ _&&_ (sym (unset-other ρ j m (λ x. eqb-false j m e (sym x)))) q)
 
@@ -118,16 +128,20 @@ has-without (suc m) j f S h s = go (eqb j m) refl (λ g l. has-without m j g S l
   where
     go : (b : Bool) → eqb j m ≡ b → ((g : Form m) → j < m → has m (without m j g) S ≡ false)
         → has (suc m) (cond b (f .0, constant m false) (without m j (f .0), without m j (f .1))) S ≡ false
-    go true e r = ap (λ b. has m (cond b (constant m false) (f .0)) S) (ap S (sym (eqb-true j m e)) ∙ s) ∙ has-false m S
+    go true e r =
+        ap (λ b. has m (cond b (constant m false) (f .0)) S) (ap S (sym (eqb-true j m e)) ∙ s) ∙ has-false m S
     go false e r =
         let ne : j ≡ m → ⊥ = eqb-false j m e in
         let l : j < m = omega arith in
-        picked (S m) (λ b. has m (cond b (without m j (f .1)) (without m j (f .0))) S ≡ false) (r (f .1) l) (r (f .0) l)
+        picked (S m) (λ b. has m (cond b (without m j (f .1)) (without m j (f .0))) S ≡ false)
+        (r (f .1) l) (r (f .0) l)
 
 -- a form that depends only on S names nothing outside S
-pub names-depends : (S : ℕ → Type 0) (m : ℕ) (f : Form m) → DependsOn S m f → (j : ℕ) → (S j → ⊥) → names m f j ≡ false
+pub names-depends : (S : ℕ → Type 0) (m : ℕ) (f : Form m) → DependsOn S m f → (j : ℕ) → (S j → ⊥)
+    → names m f j ≡ false
 unfolding names
-names-depends S m f d j n = some-none (2 ^ m) (λ k. bit k j && has m f (bit k)) (λ k h. go k h (bit k j) refl (decLt j m))
+names-depends S m f d j n =
+    some-none (2 ^ m) (λ k. bit k j && has m f (bit k)) (λ k h. go k h (bit k j) refl (decLt j m))
   where
     stays : without m j f ≡ f
     stays =

@@ -2,14 +2,11 @@
 -- Assumes nothing.
 use mathlib.Core.Path.{_≡_, refl, sym, ap, ap₂, _∙_, subst}
 use mathlib.Core.Bool.{Bool, true, false, _&&_, and-comm, and-assoc}
-use mathlib.Core.Logic.{_≢_}
 use mathlib.Core.List.{List}
 use Prim.Native.Nat.{ℕ, suc, _+_, _*_, _/_, _%_, _^_, _≤_, _<_}
-use native.Mathlib.Nat.{lt-of-lt-of-le}
 use native.Mathlib.Numerals.{add-one}
-use native.Mathlib.Decide.{decLt}
 use native.Mathlib.Omega.{arith}
-use lib.ListN.{length, getD, set, length-set}
+use lib.ListN.{getD, set, length-set}
 use lib.Seq.{getD-set-same, getD-set-other}
 use lib.Bits.{bitXor, bitOr, or-lt, xor-lt}
 use lib.Pow.{pow-lt}
@@ -50,7 +47,8 @@ flip-words ws k h w = record {
         let q : i ≡ k / 64 = eqb-true i (k / 64) e in
         subst (λ x. getD (flip ws k) x 0 < 2 ^ 64) (sym q)
         (subst (λ x. x < 2 ^ 64) (sym (getD-set-same ws (k / 64) v 0 (omega (arith, w .long)))) small)
-    go i false e = subst (λ x. x < 2 ^ 64) (sym (getD-set-other ws (k / 64) i v 0 (eqb-false i (k / 64) e))) (w .small i)
+    go i false e =
+        subst (λ x. x < 2 ^ 64) (sym (getD-set-other ws (k / 64) i v 0 (eqb-false i (k / 64) e))) (w .small i)
 
 pub flip-bit : (ws : List ℕ) (k l : ℕ) → k < 4096 → Words 64 ws → bitAt (flip ws k) l ≡ bitAt ws l ⊕ eqb k l
 unfolding bitAt
@@ -63,18 +61,21 @@ flip-bit ws k l h w = go (eqb (l / 64) (k / 64)) refl
     same q true e = eq-eqb (k % 64) (l % 64) (ap (λ x. x % 64) (eqb-true k l e))
     same q false e = ne-eqb (k % 64) (l % 64) (λ z. eqb-false k l e (omega arith))
 
-    go : (b : Bool) → eqb (l / 64) (k / 64) ≡ b → bit (getD (flip ws k) (l / 64) 0) (l % 64) ≡ bit (getD ws (l / 64) 0) (l % 64) ⊕ eqb k l
+    go : (b : Bool) → eqb (l / 64) (k / 64) ≡ b
+        → bit (getD (flip ws k) (l / 64) 0) (l % 64) ≡ bit (getD ws (l / 64) 0) (l % 64) ⊕ eqb k l
     go true e =
         let q : l / 64 ≡ k / 64 = eqb-true (l / 64) (k / 64) e in
         ap (λ x. bit (getD (flip ws k) x 0) (l % 64)) q
         ∙ ap (λ x. bit x (l % 64)) (getD-set-same ws (k / 64) v 0 (omega (arith, w .long)))
         ∙ bit-xor (getD ws (k / 64) 0) ((1 * 2 ^ (k % 64)) % 2 ^ 64) (l % 64)
         ∙ ap₂ _⊕_ (ap (λ x. bit (getD ws x 0) (l % 64)) (sym q))
-        (ap (λ x. bit x (l % 64)) (one-shl (k % 64) (omega arith)) ∙ bit-pow (k % 64) (l % 64) ∙ same q (eqb k l) refl)
+        (ap (λ x. bit x (l % 64)) (one-shl (k % 64) (omega arith)) ∙ bit-pow (k % 64) (l % 64)
+        ∙ same q (eqb k l) refl)
     go false e =
         let n : l / 64 ≡ k / 64 → ⊥ = eqb-false (l / 64) (k / 64) e in
         ap (λ x. bit x (l % 64)) (getD-set-other ws (k / 64) (l / 64) v 0 n)
-        ∙ sym (ap (λ x. bit (getD ws (l / 64) 0) (l % 64) ⊕ x) (ne-eqb k l (λ z. n (ap (λ x. x / 64) (sym z)))) ∙ ⊕-false (bit (getD ws (l / 64) 0) (l % 64)))
+        ∙ sym (ap (λ x. bit (getD ws (l / 64) 0) (l % 64) ⊕ x) (ne-eqb k l (λ z. n (ap (λ x. x / 64) (sym z))))
+        ∙ ⊕-false (bit (getD ws (l / 64) 0) (l % 64)))
 
 -- what the terms of a row before j add to the bits `old`: term x turns over the bits l with h x l
 pub record Adding (row : List ℕ) (old : ℕ → Bool) (h : ℕ → ℕ → Bool) (r : List ℕ) (j : ℕ) : Type 0 where
@@ -111,7 +112,8 @@ module _ (row : List ℕ) (old : ℕ → Bool) (h : ℕ → ℕ → Bool) where
     bits = λ l k.
         e l k ∙ ap (λ b. b ⊕ h j l) (sofar .bits l k)
         ∙ ⊕-assoc (old l) (parity j (λ x. bitAt row x && h x l)) (h j l)
-        ∙ ap (λ b. old l ⊕ b) (ap (λ b. parity j (λ x. bitAt row x && h x l) ⊕ (b && h j l)) (sym (sofar .here less)) ∙ sym (all l));
+        ∙ ap (λ b. old l ⊕ b)
+        (ap (λ b. parity j (λ x. bitAt row x && h x l) ⊕ (b && h j l)) (sym (sofar .here less)) ∙ sym (all l));
   }
     where
       all : (l : ℕ) → parity j′ (λ x. bitAt row x && h x l) ≡ parity (suc j) (λ x. bitAt row x && h x l)
@@ -133,7 +135,8 @@ union-lt i j h k = or-lt 12 i j h k
 -- term against term is document 000's conjunction
 module _ (m : ℕ) (f g : Form m) (a b : List ℕ) (few : m ≤ 12) (ea : a ≡ pack m f) (eb : b ≡ pack m g) where
   -- the terms from 2 ^ m on are absent
-  short : (h : Form m) (x : ℕ → Bool) → parity 4096 (λ i. bitOf m h i && x i) ≡ parity (2 ^ m) (λ i. bitOf m h i && x i)
+  short : (h : Form m) (x : ℕ → Bool)
+      → parity 4096 (λ i. bitOf m h i && x i) ≡ parity (2 ^ m) (λ i. bitOf m h i && x i)
   short h x =
       fold-skip _⊕_ false ⊕-false 4096 (λ i. bitOf m h i && x i) (2 ^ m) (room m few)
       (λ i l k. ap (λ y. y && x i) (bitOf-high m h i l))
@@ -145,7 +148,8 @@ module _ (m : ℕ) (f g : Form m) (a b : List ℕ) (few : m ≤ 12) (ea : a ≡ 
       (λ i l. ap (λ y. y && x i) (ap (λ y. bitAt y i) e ∙ bit-pack m h i l))
       ∙ short h x
 
-  joined-conjunct : (l : ℕ) → parity 4096 (λ i. bitAt a i && parity 4096 (λ j. bitAt b j && eqb (bitOr i j) l)) ≡ conjunct m f g l
+  joined-conjunct : (l : ℕ)
+      → parity 4096 (λ i. bitAt a i && parity 4096 (λ j. bitAt b j && eqb (bitOr i j) l)) ≡ conjunct m f g l
   unfolding conjunct
   joined-conjunct l =
       row-bits f a ea (λ i. parity 4096 (λ j. bitAt b j && eqb (bitOr i j) l))
@@ -153,9 +157,13 @@ module _ (m : ℕ) (f g : Form m) (a b : List ℕ) (few : m ≤ 12) (ea : a ≡ 
       (λ i h.
       ap (λ y. bitOf m f i && y) (row-bits g b eb (λ j. eqb (bitOr i j) l))
       ∙ parity-and (bitOf m f i) (2 ^ m) (λ j. bitOf m g j && eqb (bitOr i j) l)
-      ∙ parity-cong (2 ^ m) _ _ (λ j k. sym (and-assoc (bitOf m f i) (bitOf m g j) (eqb (bitOr i j) l)) ∙ and-comm (bitOf m f i && bitOf m g j) (eqb (bitOr i j) l)))
+      ∙ parity-cong (2 ^ m) _ _
+      (λ j k.
+      sym (and-assoc (bitOf m f i) (bitOf m g j) (eqb (bitOr i j) l))
+      ∙ and-comm (bitOf m f i && bitOf m g j) (eqb (bitOr i j) l)))
 
   pub joined-and : (r : List ℕ) → Words 64 r
-      → ((l : ℕ) → l < 4096 → bitAt r l ≡ parity 4096 (λ i. bitAt a i && parity 4096 (λ j. bitAt b j && eqb (bitOr i j) l)))
+      → ((l : ℕ) → l < 4096 → bitAt r l
+      ≡ parity 4096 (λ i. bitAt a i && parity 4096 (λ j. bitAt b j && eqb (bitOr i j) l)))
       → r ≡ pack m (and m f g)
   joined-and r w e = pack-is m (and m f g) r w (λ l h. e l h ∙ joined-conjunct l ∙ sym (and-document m f g l))

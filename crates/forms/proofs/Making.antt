@@ -2,9 +2,9 @@
 -- Assumes nothing.
 use mathlib.Core.Path.{_≡_, refl, sym, ap, ap₂, _∙_, subst}
 use mathlib.Core.Bool.{Bool, true, false, cond}
+use mathlib.Core.Logic.{⊎-elim}
 use mathlib.Core.List.{List}
 use Prim.Native.Nat.{ℕ, zero, suc, _+_, _*_, _/_, _%_, _^_, _≤_, _<_}
-use native.Mathlib.Decide.{decLt}
 use native.Mathlib.Omega.{arith}
 use lib.Bits.{bitXor, xor-lt, xor-zero-l}
 use lib.Dec.{eqb}
@@ -13,6 +13,7 @@ use lib.Pow.{pow-lt, pow-mono, pow-pos}
 use borrow.Author.Tests.{eq-eqb, ne-eqb, eqb-true, eqb-false}
 use Rattle.ground.specs.Fold.{_⊕_}
 use Rattle.ground.specs.Bits.{bit, bitAt, Words}
+use Rattle.ground.proofs.Folds.{less-or-not}
 use Rattle.ground.proofs.Bits.{bit-xor}
 use Rattle.ground.proofs.Numbers.{zero-at, zero-words, zero-bit}
 use Rattle.forms.specs.Form.{Form, constant, parameter, xor, has}
@@ -94,11 +95,9 @@ has-parameter (suc m) p k h l = go (eqb p m) refl (λ i s. has-parameter m p i s
 -- a form with term n alone, bit by bit
 bit-alone : (m : ℕ) (f : Form m) (n : ℕ) → n < 2 ^ m → ((k : ℕ) → k < 2 ^ m → has m f (bit k) ≡ eqb n k)
     → (k : ℕ) → bitOf m f k ≡ eqb n k
-bit-alone m f n h p k = go (decLt k (2 ^ m))
-  where
-    go : Dec (k < 2 ^ m) → bitOf m f k ≡ eqb n k
-    go (yes l) = bitOf-low m f k l ∙ p k l
-    go (no l) = bitOf-high m f k (omega arith) ∙ sym (ne-eqb n k (λ q. let z : ⊥ = omega arith in z))
+bit-alone m f n h p k =
+    ⊎-elim (λ l. bitOf-low m f k l ∙ p k l)
+    (λ l. bitOf-high m f k l ∙ sym (ne-eqb n k (λ q. let z : ⊥ = omega arith in z))) (less-or-not k (2 ^ m))
 
 -- the constants and a parameter, bit by bit
 pub bitOf-true : (m k : ℕ) → bitOf m (constant m true) k ≡ eqb 0 k
@@ -132,7 +131,9 @@ pub xor-row : (m : ℕ) (f g : Form m) (a b r : List ℕ) → a ≡ pack m f →
     → ((i : ℕ) → i < 64 → getD r i 0 ≡ bitXor (getD a i 0) (getD b i 0)) → r ≡ pack m (xor m f g)
 xor-row m f g a b r ea eb long each =
     pack-by m (xor m f g) r long
-    (λ i h. subst (λ x. x < 2 ^ 64) (sym (each i h)) (xor-lt 64 (getD a i 0) (getD b i 0) (word-lt m f a i ea) (word-lt m g b i eb)))
+    (λ i h.
+    subst (λ x. x < 2 ^ 64) (sym (each i h))
+    (xor-lt 64 (getD a i 0) (getD b i 0) (word-lt m f a i ea) (word-lt m g b i eb)))
     (λ i t h l.
     ap (λ x. bit x t) (each i h) ∙ bit-xor (getD a i 0) (getD b i 0) t
     ∙ ap₂ _⊕_ (word-bit m f a i t ea h l) (word-bit m g b i t eb h l) ∙ sym (bitOf-xor m f g (64 * i + t)))

@@ -1,26 +1,27 @@
 -- Forms and their 64 words: there and back, and over more parameters.
 -- Assumes nothing.
 use mathlib.Core.Path.{_≡_, refl, sym, ap, ap₂, _∙_, subst}
-use mathlib.Core.Bool.{Bool, true, false, not, _&&_, _||_, cond, and-false, or-true, true≢false}
+use mathlib.Core.Bool.{Bool, true, false, not, _&&_, _||_, and-false, or-true, true≢false}
+use mathlib.Core.Logic.{⊎-elim}
 use mathlib.Core.List.{List}
-use Prim.Native.Nat.{ℕ, zero, suc, _+_, _-_, _*_, _/_, _%_, _^_, _≤_, _<_}
-use native.Mathlib.Nat.{two-pow-succ, zero-add, le-refl, le-trans}
-use native.Mathlib.Decide.{decLt, le-ind}
+use Prim.Native.Nat.{ℕ, suc, _+_, _*_, _/_, _%_, _^_, _≤_, _<_}
+use native.Mathlib.Nat.{two-pow-succ, zero-add, le-refl}
+use native.Mathlib.Decide.{le-ind}
 use native.Mathlib.Omega.{arith}
-use lib.Dec.{eqb, ltb}
+use lib.Dec.{ltb}
 use lib.ListN.{length, getD, replicate}
 use lib.Pow.{pow-mono}
 use borrow.Author.Tests.{lt-ltb, le-ltb}
-use Rattle.ground.specs.Fold.{_⊕_, tab, every}
+use Rattle.ground.specs.Fold.{_⊕_}
 use Rattle.ground.specs.Bits.{bit, ofBits, bitAt, Words}
 use Rattle.ground.proofs.Xor.{⊕-false, &&-⊕}
-use Rattle.ground.proofs.Folds.{every-all, every-at}
+use Rattle.ground.proofs.Folds.{less-or-not, every-all, every-at}
 use Rattle.ground.proofs.Tabs.{length-tab, getD-tab}
 use Rattle.ground.proofs.Numbers.{ofBits-lt, bit-ofBits, words-of, words-same, zero-words, zero-bit}
-use Rattle.forms.specs.Form.{Form, constant, parameter, xor, putIn, seen, value, has, each}
-use Rattle.forms.specs.Words.{most, bitOf, pack, ofTerms, unpack, fits}
-use Rattle.forms.proofs.Values.{pairs, value-agree, value-constant, value-parameter, value-putIn, canonical}
-use Rattle.forms.proofs.Terms.{has-low, has-high, has-xor, has-false, has-ofTerms, terms-same}
+use Rattle.forms.specs.Form.{Form, constant, parameter, xor, seen, value, has, each}
+use Rattle.forms.specs.Words.{most, bitOf, pack, unpack, fits}
+use Rattle.forms.proofs.Values.{value-agree, value-constant, value-parameter, value-putIn, canonical}
+use Rattle.forms.proofs.Terms.{has-low, has-high, has-xor, has-false, has-ofTerms, by-halves, terms-same}
 use Rattle.forms.proofs.Document.{bitOf-low, bitOf-high}
 use Rattle.forms.proofs.Truths.{has-each}
 
@@ -42,7 +43,8 @@ bit-pack m f k h =
     ∙ ap (bitOf m f) (let e : 64 * (k / 64) + k % 64 ≡ k = omega arith in e)
 
 -- 64 words with the form's bits are the form's
-pub pack-is : (m : ℕ) (f : Form m) (r : List ℕ) → Words 64 r → ((k : ℕ) → k < 4096 → bitAt r k ≡ bitOf m f k) → r ≡ pack m f
+pub pack-is : (m : ℕ) (f : Form m) (r : List ℕ) → Words 64 r → ((k : ℕ) → k < 4096 → bitAt r k ≡ bitOf m f k)
+    → r ≡ pack m f
 pack-is m f r w h = words-same 64 r (pack m f) w (pack-words m f) (λ k l. h k l ∙ sym (bit-pack m f k l))
 
 -- 2 ^ m bits have room in 64 words
@@ -56,7 +58,8 @@ unpack-pack m f h =
     terms-same m (unpack m (pack m f)) f
     (λ k l.
     let s : k < 4096 = omega (arith, room m h) in
-    has-ofTerms m (bitAt (pack m f)) 0 k l ∙ ap (bitAt (pack m f)) (zero-add k) ∙ bit-pack m f k s ∙ bitOf-low m f k l)
+    has-ofTerms m (bitAt (pack m f)) 0 k l ∙ ap (bitAt (pack m f)) (zero-add k) ∙ bit-pack m f k s
+    ∙ bitOf-low m f k l)
 
 pub pack-inj : (m : ℕ) (f g : Form m) → m ≤ 12 → pack m f ≡ pack m g → f ≡ g
 pack-inj m f g h e = sym (unpack-pack m f h) ∙ ap (unpack m) e ∙ unpack-pack m g h
@@ -64,15 +67,13 @@ pack-inj m f g h e = sym (unpack-pack m f h) ∙ ap (unpack m) e ∙ unpack-pack
 -- the bits of the form of words
 pub bit-unpack : (m : ℕ) (ws : List ℕ) (k : ℕ) → bitOf m (unpack m ws) k ≡ (ltb k (2 ^ m) && bitAt ws k)
 unfolding unpack
-bit-unpack m ws k = go (decLt k (2 ^ m))
-  where
-    go : Dec (k < 2 ^ m) → bitOf m (unpack m ws) k ≡ (ltb k (2 ^ m) && bitAt ws k)
-    go (yes h) =
-        bitOf-low m (unpack m ws) k h ∙ has-ofTerms m (bitAt ws) 0 k h ∙ ap (bitAt ws) (zero-add k)
-        ∙ ap (λ b. b && bitAt ws k) (sym (lt-ltb k (2 ^ m) h))
-    go (no h) =
-        let l : 2 ^ m ≤ k = omega arith in
-        bitOf-high m (unpack m ws) k l ∙ ap (λ b. b && bitAt ws k) (sym (le-ltb k (2 ^ m) l))
+bit-unpack m ws k =
+    ⊎-elim
+    (λ h.
+    bitOf-low m (unpack m ws) k h ∙ has-ofTerms m (bitAt ws) 0 k h ∙ ap (bitAt ws) (zero-add k)
+    ∙ ap (λ b. b && bitAt ws k) (sym (lt-ltb k (2 ^ m) h)))
+    (λ h. bitOf-high m (unpack m ws) k h ∙ ap (λ b. b && bitAt ws k) (sym (le-ltb k (2 ^ m) h)))
+    (less-or-not k (2 ^ m))
 
 -- words to a form and back, where no bit stands at or above 2 ^ m
 pub pack-unpack : (m : ℕ) (ws : List ℕ) → Words 64 ws → fits m ws ≡ true → ws ≡ pack m (unpack m ws)
@@ -80,7 +81,8 @@ unfolding fits
 pack-unpack m ws w e =
     pack-is m (unpack m ws) ws w
     (λ k h.
-    only (ltb k (2 ^ m)) (bitAt ws k) (every-at (64 * length ws) (λ i. ltb i (2 ^ m) || not (bitAt ws i)) e k (omega (arith, w .long)))
+    only (ltb k (2 ^ m)) (bitAt ws k)
+    (every-at (64 * length ws) (λ i. ltb i (2 ^ m) || not (bitAt ws i)) e k (omega (arith, w .long)))
     ∙ sym (bit-unpack m ws k))
   where
     only : (a b : Bool) → (a || not b) ≡ true → b ≡ (a && b)
@@ -92,12 +94,11 @@ pub fits-pack : (m : ℕ) (f : Form m) → fits m (pack m f) ≡ true
 unfolding fits
 fits-pack m f =
     every-all (64 * length (pack m f)) (λ i. ltb i (2 ^ m) || not (bitAt (pack m f) i))
-    (λ k h. go k (decLt k (2 ^ m)) (let l : k < 4096 = omega (arith, pack-words m f .long) in l))
-  where
-    go : (k : ℕ) → Dec (k < 2 ^ m) → k < 4096 → (ltb k (2 ^ m) || not (bitAt (pack m f) k)) ≡ true
-    go k (yes l) h = ap (λ b. b || not (bitAt (pack m f) k)) (lt-ltb k (2 ^ m) l)
-    go k (no l) h =
-        ap (λ b. ltb k (2 ^ m) || not b) (bit-pack m f k h ∙ bitOf-high m f k (omega arith)) ∙ or-true (ltb k (2 ^ m))
+    (λ k h.
+    let s : k < 4096 = omega (arith, pack-words m f .long) in
+    ⊎-elim (λ l. ap (λ b. b || not (bitAt (pack m f) k)) (lt-ltb k (2 ^ m) l))
+    (λ l. ap (λ b. ltb k (2 ^ m) || not b) (bit-pack m f k s ∙ bitOf-high m f k l) ∙ or-true (ltb k (2 ^ m)))
+    (less-or-not k (2 ^ m)))
 
 pub value-seen : (m n : ℕ) (f : Form m) (ρ : ℕ → Bool) → m ≤ n → value n (seen m n f) ρ ≡ value m f ρ
 unfolding seen
@@ -116,25 +117,24 @@ seen-more m n f h =
     ∙ ap (λ y. value m f ρ ⊕ y) (and-false (ρ n)) ∙ ⊕-false (value m f ρ)))
 
 bit-more : (n : ℕ) (f : Form n) (k : ℕ) → bitOf (suc n) (f, constant n false) k ≡ bitOf n f k
-bit-more n f k = go (decLt k (2 ^ n)) (decLt k (2 ^ suc n))
-  where
-    go : Dec (k < 2 ^ n) → Dec (k < 2 ^ suc n) → bitOf (suc n) (f, constant n false) k ≡ bitOf n f k
-    go (yes h) d =
-        bitOf-low (suc n) (f, constant n false) k (omega (arith, two-pow-succ n)) ∙ has-low n (f, constant n false) k h
-        ∙ sym (bitOf-low n f k h)
-    go (no h) (yes d) =
-        let e : 2 ^ n + (k - 2 ^ n) ≡ k = omega arith in
-        let l : k - 2 ^ n < 2 ^ n = omega (arith, two-pow-succ n) in
-        bitOf-low (suc n) (f, constant n false) k d
-        ∙ ap (λ x. has (suc n) (f, constant n false) (bit x)) (sym e)
-        ∙ has-high n (f, constant n false) (k - 2 ^ n) l ∙ has-false n (bit (k - 2 ^ n)) ∙ sym (bitOf-high n f k (omega arith))
-    go (no h) (no d) = bitOf-high (suc n) (f, constant n false) k (omega arith) ∙ sym (bitOf-high n f k (omega arith))
+bit-more n f k =
+    let g : Form (suc n) = (f, constant n false) in
+    ⊎-elim
+    (by-halves (λ i. bitOf (suc n) g i ≡ bitOf n f i) n
+    (λ i l. bitOf-low (suc n) g i (omega (arith, two-pow-succ n)) ∙ has-low n g i l ∙ sym (bitOf-low n f i l))
+    (λ i l.
+    bitOf-low (suc n) g (2 ^ n + i) (omega (arith, two-pow-succ n)) ∙ has-high n g i l ∙ has-false n (bit i)
+    ∙ sym (bitOf-high n f (2 ^ n + i) (omega arith)))
+    k)
+    (λ h. bitOf-high (suc n) g k h ∙ sym (bitOf-high n f k (omega (arith, two-pow-succ n))))
+    (less-or-not k (2 ^ suc n))
 
 seen-self : (m : ℕ) (f : Form m) → seen m m f ≡ f
 seen-self m f = canonical m (seen m m f) f (λ ρ. value-seen m m f ρ (le-refl m))
 
 pub bit-seen : (m n : ℕ) (f : Form m) (k : ℕ) → m ≤ n → bitOf n (seen m n f) k ≡ bitOf m f k
-bit-seen m n f k h = le-ind (λ x. bitOf x (seen m x f) k ≡ bitOf m f k) (ap (λ g. bitOf m g k) (seen-self m f)) more n h
+bit-seen m n f k h =
+    le-ind (λ x. bitOf x (seen m x f) k ≡ bitOf m f k) (ap (λ g. bitOf m g k) (seen-self m f)) more n h
   where
     more : (x : ℕ) → m ≤ x → bitOf x (seen m x f) k ≡ bitOf m f k → bitOf (suc x) (seen m (suc x) f) k ≡ bitOf m f k
     more x l e = ap (λ g. bitOf (suc x) g k) (seen-more m x f l) ∙ bit-more x (seen m x f) k ∙ e
@@ -186,7 +186,8 @@ pack-by m f r l small bits =
 
 -- false is 64 words of zeros
 pub pack-false : (m : ℕ) → replicate 64 0 ≡ pack m (constant m false)
-pack-false m = pack-is m (constant m false) (replicate 64 0) (zero-words 64) (λ k h. zero-bit 64 k ∙ sym (bitOf-false m k))
+pack-false m =
+    pack-is m (constant m false) (replicate 64 0) (zero-words 64) (λ k h. zero-bit 64 k ∙ sym (bitOf-false m k))
 
 -- 64 words have room for 12 parameters, and for no more
 pub most-is : most ≡ 12

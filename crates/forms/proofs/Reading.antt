@@ -3,9 +3,9 @@
 use mathlib.Core.Path.{_≡_, refl, sym, ap, ap₂, _∙_, subst}
 use mathlib.Core.Bool.{Bool, true, false, not, _&&_, _||_, cond, and-true, and-false, or-true, or-false}
 use mathlib.Core.Bool.{false≢true}
+use mathlib.Core.Logic.{⊎-elim}
 use mathlib.Core.List.{List}
 use Prim.Native.Nat.{ℕ, zero, suc, _+_, _*_, _^_, _≤_, _<_}
-use native.Mathlib.Decide.{decLt}
 use native.Mathlib.Numerals.{add-one}
 use native.Mathlib.Omega.{arith}
 use lib.Bits.{bitOr}
@@ -16,7 +16,7 @@ use borrow.Author.Tests.{lt-ltb, le-ltb, ne-eqb, eqb-true, eqb-false}
 use Rattle.ground.specs.Fold.{_⊕_, fold, every, some}
 use Rattle.ground.specs.Bits.{bit, ofBits, bitAt, Words}
 use Rattle.ground.proofs.Xor.{⊕-self}
-use Rattle.ground.proofs.Folds.{fold-cong, fold-skip, every-all, every-not, some-none}
+use Rattle.ground.proofs.Folds.{less-or-not, fold-cong, fold-skip, every-all, every-not, some-none}
 use Rattle.ground.proofs.Bits.{bit-or, bit-zero}
 use Rattle.ground.proofs.Numbers.{same-bits, ofBits-lt, bit-ofBits}
 use Rattle.forms.specs.Form.{Form, constant, has, names, same}
@@ -147,7 +147,8 @@ module _ (m : ℕ) (f : Form m) (row : List ℕ) (few : m ≤ 12) (e : row ≡ p
     -- no term
     pub read-false : (n : ℕ) → Next row 0 1 n → 1 ≤ n → False ≡ whichConstant m f
     read-false n first h =
-        which-false m f (pack-inj m f (constant m false) few (sym e ∙ pack-is m (constant m false) row row-words bits))
+        which-false m f
+        (pack-inj m f (constant m false) few (sym e ∙ pack-is m (constant m false) row row-words bits))
       where
         bits : (l : ℕ) → l < 4096 → bitAt row l ≡ bitOf m (constant m false) l
         bits zero b = first .none 0 (omega arith) (omega arith) ∙ sym (bitOf-false m 0)
@@ -168,17 +169,18 @@ pub fits-next : (m n : ℕ) (ws : List ℕ) (r : ℕ) → length ws ≡ 64 → m
 unfolding fits
 fits-next m n ws r long few start next = go (eqb r 4096) refl
   where
-    each : (k : ℕ) → k < r → Dec (k < 2 ^ m) → (ltb k (2 ^ m) || not (bitAt ws k)) ≡ true
-    each k h (yes l) = ap (λ b. b || not (bitAt ws k)) (lt-ltb k (2 ^ m) l)
-    each k h (no l) =
-        ap (λ b. ltb k (2 ^ m) || not b) (next .none k (omega arith) h) ∙ or-true (ltb k (2 ^ m))
+    each : (k : ℕ) → k < r → (ltb k (2 ^ m) || not (bitAt ws k)) ≡ true
+    each k h =
+        ⊎-elim (λ l. ap (λ b. b || not (bitAt ws k)) (lt-ltb k (2 ^ m) l))
+        (λ l. ap (λ b. ltb k (2 ^ m) || not b) (next .none k (omega arith) h) ∙ or-true (ltb k (2 ^ m)))
+        (less-or-not k (2 ^ m))
 
     go : (b : Bool) → eqb r 4096 ≡ b → eqb r 4096 ≡ every (64 * length ws) (λ k. ltb k (2 ^ m) || not (bitAt ws k))
     go true e =
         let end : r ≡ 4096 = eqb-true r 4096 e in
         e
         ∙ sym (every-all (64 * length ws) (λ k. ltb k (2 ^ m) || not (bitAt ws k))
-        (λ k h. each k (omega arith) (decLt k (2 ^ m))))
+        (λ k h. each k (omega arith)))
     go false e =
         let other : r ≡ 4096 → ⊥ = eqb-false r 4096 e in
         let less : r < 4096 = omega (arith, next .high) in

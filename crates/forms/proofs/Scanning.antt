@@ -1,13 +1,14 @@
 -- Looking for the next term of a row: which bits are passed over.
 -- Assumes nothing.
-use mathlib.Core.Path.{_≡_, refl, sym, ap, ap₂, _∙_, subst}
-use mathlib.Core.Bool.{Bool, true, false}
+use mathlib.Core.Path.{_≡_, sym, ap, ap₂, _∙_, subst}
+use mathlib.Core.Bool.{true, false}
+use mathlib.Core.Logic.{⊎-elim}
 use mathlib.Core.List.{List}
 use Prim.Native.Nat.{ℕ, _+_, _-_, _*_, _/_, _%_, _^_, _≤_, _<_}
-use native.Mathlib.Decide.{decLt}
 use native.Mathlib.Omega.{arith}
 use lib.ListN.{getD}
 use Rattle.ground.specs.Bits.{bit, bitAt}
+use Rattle.ground.proofs.Folds.{less-or-not}
 use Rattle.forms.specs.Steps.{Next}
 use Rattle.ground.proofs.Bits.{bit-true, bit-false, bit-shr, bit-zero}
 
@@ -33,11 +34,7 @@ word-absent row k i h a b =
 -- what holds from a up to k, and from k up to n, holds from a up to n
 pub onwards : (P : ℕ → Type 0) (a k n : ℕ) → ((i : ℕ) → a ≤ i → i < k → P i) → ((i : ℕ) → k ≤ i → i < n → P i)
     → (i : ℕ) → a ≤ i → i < n → P i
-onwards P a k n low high i h l = go (decLt i k)
-  where
-    go : Dec (i < k) → P i
-    go (yes d) = low i h d
-    go (no d) = high i (omega arith) l
+onwards P a k n low high i h l = ⊎-elim (low i h) (λ d. high i d l) (less-or-not i k)
 
 -- one place
 pub only-one : (P : ℕ → Type 0) (k : ℕ) → P k → (i : ℕ) → k ≤ i → i < k + 1 → P i

@@ -2,16 +2,14 @@
 -- Assumes nothing.
 use mathlib.Core.Path.{_≡_, refl, sym, ap, ap₂, _∙_, subst}
 use mathlib.Core.Bool.{Bool, true, false, not, _&&_, _||_, cond, and-true, and-comm, and-assoc}
-use Prim.Native.Nat.{ℕ, zero, suc, _+_, _-_, _^_, _≤_, _<_}
-use native.Mathlib.Nat.{two-pow-succ, add-assoc, add-zero}
-use native.Mathlib.Decide.{decLt}
+use mathlib.Core.Logic.{⊎-elim}
+use Prim.Native.Nat.{ℕ, zero, suc, _+_, _-_, _^_, _<_}
+use native.Mathlib.Nat.{two-pow-succ, add-assoc}
 use native.Mathlib.Omega.{arith}
-use lib.Dec.{eqb}
 use borrow.Author.Tests.{eq-eqb, ne-eqb}
 use Rattle.ground.specs.Fold.{_⊕_, fold, every, parity}
 use Rattle.ground.specs.Bits.{bit}
-use Rattle.ground.proofs.Xor.{⊕-false}
-use Rattle.ground.proofs.Folds.{fold-cong, parity-and, parity-halves, parity-cong}
+use Rattle.ground.proofs.Folds.{less-or-not, fold-cong, parity-and, parity-halves, parity-cong}
 use Rattle.ground.proofs.Bits.{bit-plus, bit-over}
 use Rattle.forms.specs.Form.{Form, constant, xor, value, has}
 use Rattle.forms.specs.Words.{ofTerms}
@@ -34,13 +32,17 @@ pub has-xor : (m : ℕ) (f g : Form m) (S : ℕ → Bool) → has m (xor m f g) 
 unfolding has xor
 has-xor zero f g S = refl
 has-xor (suc m) f g S =
-    picked (S m) (λ b. has m (cond b (xor m (f .1) (g .1)) (xor m (f .0) (g .0))) S ≡ has m (cond b (f .1) (f .0)) S ⊕ has m (cond b (g .1) (g .0)) S)
+    picked (S m)
+    (λ b.
+    has m (cond b (xor m (f .1) (g .1)) (xor m (f .0) (g .0))) S
+    ≡ has m (cond b (f .1) (f .0)) S ⊕ has m (cond b (g .1) (g .0)) S)
     (has-xor m (f .1) (g .1) S) (has-xor m (f .0) (g .0) S)
 
 pub has-false : (m : ℕ) (S : ℕ → Bool) → has m (constant m false) S ≡ false
 unfolding has constant
 has-false zero S = refl
-has-false (suc m) S = picked (S m) (λ b. has m (cond b (constant m false) (constant m false)) S ≡ false) (has-false m S) (has-false m S)
+has-false (suc m) S =
+    picked (S m) (λ b. has m (cond b (constant m false) (constant m false)) S ≡ false) (has-false m S) (has-false m S)
 
 -- the bits of 2 ^ m + k, for k below 2 ^ m
 pub high-bit : (m k : ℕ) → k < 2 ^ m → bit (2 ^ m + k) m ≡ true
@@ -66,18 +68,20 @@ unfolding has
 terms-same zero f g h = h 0 (omega arith)
 terms-same (suc m) f g h =
     pairs m
-    (terms-same m (f .0) (g .0) (λ k l. sym (has-low m f k l) ∙ h k (omega (arith, two-pow-succ m)) ∙ has-low m g k l))
-    (terms-same m (f .1) (g .1) (λ k l. sym (has-high m f k l) ∙ h (2 ^ m + k) (omega (arith, two-pow-succ m)) ∙ has-high m g k l))
+    (terms-same m (f .0) (g .0)
+    (λ k l. sym (has-low m f k l) ∙ h k (omega (arith, two-pow-succ m)) ∙ has-low m g k l))
+    (terms-same m (f .1) (g .1)
+    (λ k l. sym (has-high m f k l) ∙ h (2 ^ m + k) (omega (arith, two-pow-succ m)) ∙ has-high m g k l))
 
 -- what holds of each half of the numbers below 2 ^ (m + 1) holds of all
-pub by-halves : (P : ℕ → Type 0) (m : ℕ) → ((k : ℕ) → k < 2 ^ m → P k) → ((k : ℕ) → k < 2 ^ m → P (2 ^ m + k)) → (k : ℕ) → k < 2 ^ suc m → P k
-by-halves P m low high k h = go (decLt k (2 ^ m))
-  where
-    go : Dec (k < 2 ^ m) → P k
-    go (yes l) = low k l
-    go (no l) =
-        let e : 2 ^ m + (k - 2 ^ m) ≡ k = omega arith in
-        subst P e (high (k - 2 ^ m) (omega (arith, two-pow-succ m)))
+pub by-halves : (P : ℕ → Type 0) (m : ℕ) → ((k : ℕ) → k < 2 ^ m → P k) → ((k : ℕ) → k < 2 ^ m → P (2 ^ m + k))
+    → (k : ℕ) → k < 2 ^ suc m → P k
+by-halves P m low high k h =
+    ⊎-elim (low k)
+    (λ l.
+    let e : 2 ^ m + (k - 2 ^ m) ≡ k = omega arith in
+    subst P e (high (k - 2 ^ m) (omega (arith, two-pow-succ m))))
+    (less-or-not k (2 ^ m))
 
 pub has-ofTerms : (m : ℕ) (g : ℕ → Bool) (from k : ℕ) → k < 2 ^ m → has m (ofTerms m g from) (bit k) ≡ g (from + k)
 unfolding has ofTerms
@@ -85,7 +89,8 @@ has-ofTerms zero g from k h = ap g (let e : from ≡ from + k = omega arith in e
 has-ofTerms (suc m) g from k h =
     by-halves (λ i. has (suc m) (ofTerms (suc m) g from) (bit i) ≡ g (from + i)) m
     (λ i l. has-low m (ofTerms (suc m) g from) i l ∙ has-ofTerms m g from i l)
-    (λ i l. has-high m (ofTerms (suc m) g from) i l ∙ has-ofTerms m g (from + 2 ^ m) i l ∙ ap g (add-assoc from (2 ^ m) i))
+    (λ i l.
+    has-high m (ofTerms (suc m) g from) i l ∙ has-ofTerms m g (from + 2 ^ m) i l ∙ ap g (add-assoc from (2 ^ m) i))
     k h
 
 -- the value of term k: all its parameters are true
@@ -100,19 +105,23 @@ term-high : (m k : ℕ) (ρ : ℕ → Bool) → k < 2 ^ m → termValue (suc m) 
 unfolding termValue fold
 term-high m k ρ h =
     ap₂ (λ x b. x && (not b || ρ m))
-    (fold-cong _&&_ true m (λ j. not (bit (2 ^ m + k) j) || ρ j) (λ j. not (bit k j) || ρ j) (λ j l. ap (λ b. not b || ρ j) (low-bit m k j h l)))
+    (fold-cong _&&_ true m (λ j. not (bit (2 ^ m + k) j) || ρ j) (λ j. not (bit k j) || ρ j)
+    (λ j l. ap (λ b. not b || ρ j) (low-bit m k j h l)))
     (high-bit m k h)
 
 -- a form's value is the parity of its true terms
-pub value-terms : (m : ℕ) (f : Form m) (ρ : ℕ → Bool) → value m f ρ ≡ parity (2 ^ m) (λ k. has m f (bit k) && termValue m k ρ)
+pub value-terms : (m : ℕ) (f : Form m) (ρ : ℕ → Bool)
+    → value m f ρ ≡ parity (2 ^ m) (λ k. has m f (bit k) && termValue m k ρ)
 unfolding value has termValue fold
 value-terms zero f ρ = sym (and-true f)
 value-terms (suc m) f ρ =
     ap₂ (λ x y. x ⊕ (ρ m && y)) (value-terms m (f .0) ρ) (value-terms m (f .1) ρ)
-    ∙ ap (λ y. parity (2 ^ m) (λ k. has m (f .0) (bit k) && termValue m k ρ) ⊕ y) (parity-and (ρ m) (2 ^ m) (λ k. has m (f .1) (bit k) && termValue m k ρ))
+    ∙ ap (λ y. parity (2 ^ m) (λ k. has m (f .0) (bit k) && termValue m k ρ) ⊕ y)
+    (parity-and (ρ m) (2 ^ m) (λ k. has m (f .1) (bit k) && termValue m k ρ))
     ∙ sym (parity-halves m (λ k. has (suc m) f (bit k) && termValue (suc m) k ρ)
     ∙ ap₂ _⊕_ (parity-cong (2 ^ m) _ _ (λ k h. ap₂ _&&_ (has-low m f k h) (term-low m k ρ h)))
-    (parity-cong (2 ^ m) _ _ (λ k h. ap₂ _&&_ (has-high m f k h) (term-high m k ρ h) ∙ turn (has m (f .1) (bit k)) (termValue m k ρ) (ρ m))))
+    (parity-cong (2 ^ m) _ _
+    (λ k h. ap₂ _&&_ (has-high m f k h) (term-high m k ρ h) ∙ turn (has m (f .1) (bit k)) (termValue m k ρ) (ρ m))))
   where
     turn : (a b c : Bool) → (a && (b && c)) ≡ (c && (a && b))
     turn a b c = sym (and-assoc a b c) ∙ and-comm (a && b) c

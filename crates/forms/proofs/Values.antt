@@ -1,15 +1,15 @@
 -- The value of each form, and that its values fix a form: the laws that the rewriting cites.
 -- Assumes nothing.
 use mathlib.Core.Path.{_≡_, refl, sym, ap, ap₂, _∙_}
-use mathlib.Core.Bool.{Bool, true, false, not, _&&_, _||_, cond, and-true, and-false, and-comm, and-assoc, and-self}
+use mathlib.Core.Bool.{Bool, true, false, _&&_, _||_, cond, and-true, and-false}
 use Prim.Native.Nat.{ℕ, zero, suc, _≤_, _<_}
 use native.Mathlib.Omega.{arith}
 use lib.Dec.{eqb}
 use borrow.Author.Tests.{eq-eqb, ne-eqb, eqb-true, eqb-false}
 use Rattle.ground.specs.Fold.{_⊕_}
-use Rattle.ground.proofs.Xor.{⊕-false, ⊕-self, ⊕-comm, ⊕-assoc, ⊕-cancel, ⊕-inj, &&-⊕, or-⊕}
+use Rattle.ground.proofs.Xor.{⊕-false, ⊕-cancel, ⊕-inj, &&-⊕, or-⊕}
 use Rattle.ground.proofs.Folds.{⊕-mid}
-use Rattle.forms.specs.Form.{Form, constant, parameter, xor, and, or, putIn, value, DependsOn, same}
+use Rattle.forms.specs.Form.{Form, constant, parameter, xor, and, or, putIn, value}
 
 pub pairs : (m : ℕ) {a b c d : Form m} → a ≡ b → c ≡ d → _≡_ {A = Form (suc m)} (a, c) (b, d)
 pairs m p q = λ i. (p i, q i)
@@ -42,14 +42,16 @@ value-parameter (suc m) p ρ h = go (eqb p m) refl (value-parameter m p ρ)
     go false e r =
         let ne : p ≡ m → ⊥ = eqb-false p m e in
         let l : p < m = omega arith in
-        ap₂ (λ x y. x ⊕ (ρ m && y)) (r l) (value-constant m false ρ) ∙ ap (λ y. ρ p ⊕ y) (and-false (ρ m)) ∙ ⊕-false (ρ p)
+        ap₂ (λ x y. x ⊕ (ρ m && y)) (r l) (value-constant m false ρ) ∙ ap (λ y. ρ p ⊕ y) (and-false (ρ m))
+        ∙ ⊕-false (ρ p)
 
 -- there is no parameter from m on
 pub parameter-none : (m p : ℕ) → m ≤ p → parameter m p ≡ constant m false
 unfolding parameter constant
 parameter-none zero p h = refl
 parameter-none (suc m) p h =
-    ap (λ b. cond b (constant m false, constant m true) (parameter m p, constant m false)) (ne-eqb p m (λ e. let z : ⊥ = omega arith in z))
+    ap (λ b. cond b (constant m false, constant m true) (parameter m p, constant m false))
+    (ne-eqb p m (λ e. let z : ⊥ = omega arith in z))
     ∙ pairs m (parameter-none m p (omega arith)) refl
 
 pub value-xor : (m : ℕ) (f g : Form m) (ρ : ℕ → Bool) → value m (xor m f g) ρ ≡ value m f ρ ⊕ value m g ρ
@@ -74,13 +76,15 @@ value-and (suc m) f g ρ =
     ap₂ (λ x y. x ⊕ (ρ m && y)) (value-and m (f .0) (g .0) ρ)
     (value-xor m low both ρ
     ∙ ap₂ _⊕_ (value-and m (f .0) (g .0) ρ)
-    (value-and m (xor m (f .0) (f .1)) (xor m (g .0) (g .1)) ρ ∙ ap₂ _&&_ (value-xor m (f .0) (f .1) ρ) (value-xor m (g .0) (g .1) ρ)))
+    (value-and m (xor m (f .0) (f .1)) (xor m (g .0) (g .1)) ρ
+    ∙ ap₂ _&&_ (value-xor m (f .0) (f .1) ρ) (value-xor m (g .0) (g .1) ρ)))
     ∙ and-step (ρ m) (value m (f .0) ρ) (value m (f .1) ρ) (value m (g .0) ρ) (value m (g .1) ρ)
 
 pub value-or : (m : ℕ) (f g : Form m) (ρ : ℕ → Bool) → value m (or m f g) ρ ≡ (value m f ρ || value m g ρ)
 unfolding or
 value-or m f g ρ =
-    value-xor m (xor m f g) (and m f g) ρ ∙ ap₂ _⊕_ (value-xor m f g ρ) (value-and m f g ρ) ∙ or-⊕ (value m f ρ) (value m g ρ)
+    value-xor m (xor m f g) (and m f g) ρ ∙ ap₂ _⊕_ (value-xor m f g ρ) (value-and m f g ρ)
+    ∙ or-⊕ (value m f ρ) (value m g ρ)
 
 pub value-putIn : (m n : ℕ) (f : Form m) (σ : ℕ → Form n) (ρ : ℕ → Bool)
     → value n (putIn m n f σ) ρ ≡ value m f (λ j. value n (σ j) ρ)
@@ -112,8 +116,10 @@ unfolding value
 canonical zero f g h = h (λ j. false)
 canonical (suc m) f g h =
     let low : (ρ : ℕ → Bool) → value m (f .0) ρ ≡ value m (g .0) ρ
-    = λ ρ. sym (⊕-false (value m (f .0) ρ)) ∙ sym (value-set m f ρ false) ∙ h (setAt ρ m false) ∙ value-set m g ρ false ∙ ⊕-false (value m (g .0) ρ) in
+    = λ ρ. sym (⊕-false (value m (f .0) ρ)) ∙ sym (value-set m f ρ false) ∙ h (setAt ρ m false)
+    ∙ value-set m g ρ false ∙ ⊕-false (value m (g .0) ρ) in
     let high : (ρ : ℕ → Bool) → value m (f .1) ρ ≡ value m (g .1) ρ
     = λ ρ. ⊕-inj (value m (f .0) ρ) (value m (f .1) ρ) (value m (g .1) ρ)
-    (sym (value-set m f ρ true) ∙ h (setAt ρ m true) ∙ value-set m g ρ true ∙ ap (λ x. x ⊕ value m (g .1) ρ) (sym (low ρ))) in
+    (sym (value-set m f ρ true) ∙ h (setAt ρ m true) ∙ value-set m g ρ true
+    ∙ ap (λ x. x ⊕ value m (g .1) ρ) (sym (low ρ))) in
     pairs m (canonical m (f .0) (g .0) low) (canonical m (f .1) (g .1) high)

@@ -1,21 +1,18 @@
 -- Rows of an area put into a form: over the most parameters, and so over fewer.
 -- Assumes nothing.
-use mathlib.Core.Path.{_≡_, refl, sym, ap, ap₂, _∙_, subst}
-use mathlib.Core.Bool.{Bool, true, false}
+use mathlib.Core.Path.{_≡_, sym, ap, ap₂, _∙_, subst}
+use mathlib.Core.Bool.{false}
 use mathlib.Core.Logic.{inl}
 use mathlib.Core.List.{List, map}
-use Prim.Native.Nat.{ℕ, suc, _+_, _*_, _%_, _^_, _≤_, _<_}
+use Prim.Native.Nat.{ℕ, _+_, _%_, _≤_, _<_}
 use native.Mathlib.Nat.{add-zero, le-trans}
 use native.Mathlib.Omega.{arith}
 use borrow.Author.Count.{below-more}
 use lib.ListN.{length, getD, replicate, length-map, List·getD-map, List·getD-eq-default}
-use Rattle.ground.specs.Fold.{tab}
-use Rattle.ground.specs.Bits.{bit, bitAt, Words}
-use Rattle.ground.proofs.Tabs.{length-tab, getD-tab}
+use Rattle.ground.specs.Bits.{bit, bitAt}
 use Rattle.ground.proofs.Bits.{bit-low}
-use Rattle.ground.proofs.Numbers.{zero-at}
 use Rattle.forms.specs.Form.{Form, constant, putIn, seen, value, truth}
-use Rattle.forms.specs.Words.{most, bitOf, pack, unpack, ofTerms}
+use Rattle.forms.specs.Words.{most, pack, unpack, ofTerms}
 use Rattle.forms.specs.Area.{rowAt, putRows, formIn, Holds}
 use Rattle.forms.specs.Rows.{WithRows}
 use Rattle.forms.specs.Steps.{Tables, PutTerms, TableAt, TablesOf}
@@ -23,17 +20,20 @@ use Rattle.forms.proofs.Values.{value-agree, value-putIn, canonical}
 use Rattle.forms.proofs.Depends.{putIn-constant}
 use Rattle.forms.proofs.Truths.{has-truth, truth-truth, truth-false}
 use Rattle.forms.proofs.Document.{bitOf-low}
-use Rattle.forms.proofs.Packing.{pack-words, bit-pack, unpack-pack, pack-inj, pack-false, value-seen, pack-seen, most-is, most-few, most-wide}
-use Rattle.forms.proofs.Areas.{row-at, row-put, row-kept, length-putRows, row-past}
+use Rattle.forms.proofs.Packing.{pack-words, bit-pack, unpack-pack, pack-inj, pack-false}
+use Rattle.forms.proofs.Packing.{value-seen, pack-seen, most-is, most-few, most-wide}
+use Rattle.forms.proofs.Areas.{row-put, row-kept, row-past}
 
 -- no row there, or one of zeros: false
 pub table-none : (ws : List ℕ) (base count j : ℕ) → count ≤ j → TableAt ws base count j (replicate 64 0)
 table-none ws base count j h rows holds =
+    let past : length rows ≤ j = omega (arith, holds .long) in
     pack-false most
     ∙ ap (pack most) (sym (truth-false most)
-    ∙ ap (truth most) (sym (List·getD-eq-default rows (constant most false) (let e : length rows ≤ j = omega (arith, holds .long) in e))))
+    ∙ ap (truth most) (sym (List·getD-eq-default rows (constant most false) past)))
 
-pub table-past : (ws : List ℕ) (base count j : ℕ) → j < count → length ws < base + j → TableAt ws base count j (replicate 64 0)
+pub table-past : (ws : List ℕ) (base count j : ℕ) → j < count → length ws < base + j
+    → TableAt ws base count j (replicate 64 0)
 table-past ws base count j h l rows holds =
     pack-false most ∙ ap (pack most) (sym (truth-false most) ∙ ap (truth most) (sym none))
   where
@@ -50,10 +50,10 @@ table-here ws base count j row r h e made rows holds = made (formIn most rows j)
 pub tables-more : (ts ts′ t : List ℕ) (j : ℕ) (σ : ℕ → Form most) → length ts ≡ 768 → j < 12
     → t ≡ pack most (truth most (σ j)) → ts′ ≡ putRows ts j 1 (λ _. t) → Tables ts j σ → Tables ts′ (j + 1) σ
 tables-more ts ts′ t j σ long h e put sofar =
+    let words : length t ≡ 64 = ap length e ∙ pack-words most (truth most (σ j)) .long in
     below-more (λ i. rowAt ts′ i ≡ pack most (truth most (σ i))) j
     (λ i l. ap (λ x. rowAt x i) put ∙ row-kept ts j 1 (λ _. t) i (inl l) ∙ sofar i l)
-    (ap₂ rowAt put (sym (add-zero j))
-    ∙ row-put ts j 1 (λ _. t) 0 (omega arith) (omega arith) (ap length e ∙ pack-words most (truth most (σ j)) .long) ∙ e)
+    (ap₂ rowAt put (sym (add-zero j)) ∙ row-put ts j 1 (λ _. t) 0 (omega arith) (omega arith) words ∙ e)
 
 -- over the most parameters
 put-most : (row v r ts ws : List ℕ) (base count : ℕ) → TablesOf ws base count ts → PutTerms row ts 12 0 v
@@ -72,7 +72,8 @@ put-most row v r ts ws base count tables put back f rows e holds =
 
     made : v ≡ pack most (truth most (putIn most most (ofTerms most (bitAt row) 0) (formIn most rows)))
     made =
-        subst (λ p. v ≡ pack most (truth most (putIn p most (ofTerms p (bitAt row) 0) (formIn most rows)))) (sym most-is)
+        subst (λ p. v ≡ pack most (truth most (putIn p most (ofTerms p (bitAt row) 0) (formIn most rows))))
+        (sym most-is)
         (put (formIn most rows) (tables rows holds))
 
 -- a list of forms over m, seen over the most
@@ -86,9 +87,11 @@ module _ (m : ℕ) (few : m ≤ 12) where
   wider-at : (rows : List (Form m)) (j : ℕ) → formIn most (wider rows) j ≡ seen m most (formIn m rows j)
   unfolding wider seen
   wider-at rows j =
-      ap (getD (map (seen m most) rows) j) (sym (putIn-constant m most false _)) ∙ List·getD-map (seen m most) rows j (constant m false)
+      ap (getD (map (seen m most) rows) j) (sym (putIn-constant m most false _))
+      ∙ List·getD-map (seen m most) rows j (constant m false)
 
-  wider-holds : (ws : List ℕ) (base count : ℕ) (rows : List (Form m)) → Holds m ws base count rows → Holds most ws base count (wider rows)
+  wider-holds : (ws : List ℕ) (base count : ℕ) (rows : List (Form m)) → Holds m ws base count rows
+      → Holds most ws base count (wider rows)
   unfolding wider
   wider-holds ws base count rows holds = record {
     long = length-map rows (seen m most) ∙ holds .long;
@@ -99,7 +102,8 @@ module _ (m : ℕ) (few : m ≤ 12) where
   putIn-wider : (f : Form m) (rows : List (Form m))
       → putIn most most (seen m most f) (formIn most (wider rows)) ≡ seen m most (putIn m m f (formIn m rows))
   putIn-wider f rows =
-      canonical most (putIn most most (seen m most f) (formIn most (wider rows))) (seen m most (putIn m m f (formIn m rows)))
+      canonical most (putIn most most (seen m most f) (formIn most (wider rows)))
+      (seen m most (putIn m m f (formIn m rows)))
       (λ ρ.
       value-putIn most most (seen m most f) (formIn most (wider rows)) ρ
       ∙ value-seen m most f (λ j. value most (formIn most (wider rows) j) ρ) fits
@@ -122,6 +126,7 @@ value-here row t s made m f few e =
     let k : ℕ = s % 4096 in
     let h : k < 4096 = omega arith in
     ap (λ x. bitAt x k) (made (seen m most f) (e ∙ pack-seen m most f (fits m few)))
-    ∙ bit-pack most (truth most (seen m most f)) k h ∙ bitOf-low most (truth most (seen m most f)) k (le-trans h most-wide)
+    ∙ bit-pack most (truth most (seen m most f)) k h
+    ∙ bitOf-low most (truth most (seen m most f)) k (le-trans h most-wide)
     ∙ has-truth most (seen m most f) (bit k) ∙ value-seen m most f (bit k) (fits m few)
     ∙ value-agree m f (bit k) (bit s) (λ j l. bit-low s 12 j (omega arith))

@@ -1,4 +1,5 @@
--- Forms over m parameters, and what is done with them (document 000, section 3.2; document 01, "How the rule is rewritten").
+-- Forms over m parameters, and what is done with them
+-- (document 000, section 3.2; document 01, "How the rule is rewritten").
 use mathlib.Core.Path.{_≡_}
 use mathlib.Core.Bool.{Bool, true, false, not, _&&_, cond}
 use Prim.Native.Nat.{ℕ, zero, suc, _^_}

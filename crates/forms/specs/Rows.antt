@@ -1,6 +1,6 @@
 -- What the functions on rows answer: a row of 64 words is read as a form over any number of parameters, up to 12.
 use mathlib.Core.Path.{_≡_}
-use mathlib.Core.Bool.{Bool, true, false, cond}
+use mathlib.Core.Bool.{true, false, cond}
 use mathlib.Core.List.{List}
 use Prim.Native.Nat.{ℕ, _≤_}
 use Rattle.forms.specs.Form.{Form, constant, putIn, same}

@@ -31,8 +31,8 @@ pub record Alone (k : ℕ) (r : List ℕ) : Type 0 where
 -- masks of the bits of a word whose number lacks parameter p, for the six parameters inside a word
 abbrev pub masks : List ℕ
 masks =
-    0x5555_5555_5555_5555 ∷ 0x3333_3333_3333_3333 ∷ 0x0F0F_0F0F_0F0F_0F0F ∷ 0x00FF_00FF_00FF_00FF ∷ 0x0000_FFFF_0000_FFFF
-    ∷ 0x0000_0000_FFFF_FFFF ∷ []
+    0x5555_5555_5555_5555 ∷ 0x3333_3333_3333_3333 ∷ 0x0F0F_0F0F_0F0F_0F0F
+    ∷ 0x00FF_00FF_00FF_00FF ∷ 0x0000_FFFF_0000_FFFF ∷ 0x0000_0000_FFFF_FFFF ∷ []
 
 -- bit k after the pass of parameter p: with the parameter it takes on the bit without it
 unfoldable pub passedBit : List ℕ → ℕ → ℕ → Bool
@@ -68,4 +68,5 @@ TableAt ws base count j r =
 
 -- ts holds the truth values of the first twelve of them
 abbrev pub TablesOf : List ℕ → ℕ → ℕ → List ℕ → Type 0
-TablesOf ws base count ts = (rows : List (Form most)) → Holds most ws base count rows → Tables ts 12 (formIn most rows)
+TablesOf ws base count ts =
+    (rows : List (Form most)) → Holds most ws base count rows → Tables ts 12 (formIn most rows)

@@ -1,17 +1,19 @@
 -- The bits of what `^ & | << >>`, `%` and sums make of numbers.
 -- Assumes nothing.
-use mathlib.Core.Path.{_≡_, refl, sym, ap, ap₂, _∙_, subst}
-use mathlib.Core.Bool.{Bool, true, false, not, _&&_, _||_, true≢false}
+use mathlib.Core.Path.{_≡_, refl, sym, ap, _∙_}
+use mathlib.Core.Bool.{Bool, true, false, _&&_, _||_, true≢false}
+use mathlib.Core.Logic.{⊎-elim}
 use Prim.Native.Nat.{ℕ, zero, suc, _+_, _-_, _*_, _/_, _%_, _^_, _≤_, _<_, min, max}
-use native.Mathlib.Nat.{mod-lt, div-eq-of-lt, div-one, pow-suc, mul-mod-left, mul-div-mul-right, one-mul, mod-eq-of-lt, lt-of-lt-of-le}
-use native.Mathlib.Decide.{decLt}
+use native.Mathlib.Nat.{mod-lt, div-eq-of-lt, div-one, pow-suc}
+use native.Mathlib.Nat.{mul-mod-left, mul-div-mul-right, one-mul, lt-of-lt-of-le}
 use native.Mathlib.Omega.{arith}
-use lib.Dec.{T, eqb, leb, lit<, eqb·zero-suc, eqb·suc-zero, eqb·suc-suc}
-use lib.Pow.{pow-pos, pow-lt, pow-mono, pow-add, shr-shr, shl-shr, field, mod-mod-pow, shl-exact}
+use lib.Dec.{eqb, leb, lit<, eqb·zero-suc, eqb·suc-zero, eqb·suc-suc}
+use lib.Pow.{pow-pos, pow-lt, pow-mono, shr-shr, shl-shr, field, mod-mod-pow, shl-exact}
 use lib.Bits.{bitAnd, bitOr, bitXor, differ, and-shr, or-shr, xor-shr, and-step, or-step, xor-step, xor-shifted}
 use borrow.Author.Tests.{le-leb, lt-leb, eq-eqb, ne-eqb}
 use Rattle.ground.specs.Fold.{_⊕_}
 use Rattle.ground.specs.Bits.{bit}
+use Rattle.ground.proofs.Folds.{less-or-not}
 
 -- what holds of 0 and 1 holds of two digits
 two-digits : (P : ℕ → ℕ → Type 0) → P 0 0 → P 0 1 → P 1 0 → P 1 1 → (x y : ℕ) → x < 2 → y < 2 → P x y
@@ -40,15 +42,18 @@ module _ (op digit : ℕ → ℕ → ℕ) (f : Bool → Bool → Bool)
 
 pub bit-xor : (a b t : ℕ) → bit (bitXor a b) t ≡ bit a t ⊕ bit b t
 bit-xor = bit-op bitXor differ _⊕_ xor-shr xor-step
-    (two-digits (λ x y. (differ x y < 2) × (eqb (differ x y) 1 ≡ eqb x 1 ⊕ eqb y 1)) (lit< tt, refl) (lit< tt, refl) (lit< tt, refl) (lit< tt, refl))
+    (two-digits (λ x y. (differ x y < 2) × (eqb (differ x y) 1 ≡ eqb x 1 ⊕ eqb y 1))
+    (lit< tt, refl) (lit< tt, refl) (lit< tt, refl) (lit< tt, refl))
 
 pub bit-and : (a b t : ℕ) → bit (bitAnd a b) t ≡ (bit a t && bit b t)
 bit-and = bit-op bitAnd min _&&_ and-shr and-step
-    (two-digits (λ x y. (min x y < 2) × (eqb (min x y) 1 ≡ (eqb x 1 && eqb y 1))) (lit< tt, refl) (lit< tt, refl) (lit< tt, refl) (lit< tt, refl))
+    (two-digits (λ x y. (min x y < 2) × (eqb (min x y) 1 ≡ (eqb x 1 && eqb y 1)))
+    (lit< tt, refl) (lit< tt, refl) (lit< tt, refl) (lit< tt, refl))
 
 pub bit-or : (a b t : ℕ) → bit (bitOr a b) t ≡ (bit a t || bit b t)
 bit-or = bit-op bitOr max _||_ or-shr or-step
-    (two-digits (λ x y. (max x y < 2) × (eqb (max x y) 1 ≡ (eqb x 1 || eqb y 1))) (lit< tt, refl) (lit< tt, refl) (lit< tt, refl) (lit< tt, refl))
+    (two-digits (λ x y. (max x y < 2) × (eqb (max x y) 1 ≡ (eqb x 1 || eqb y 1)))
+    (lit< tt, refl) (lit< tt, refl) (lit< tt, refl) (lit< tt, refl))
 
 -- the code's test of a bit
 pub bit-true : (x t : ℕ) → x / 2 ^ t % 2 ≡ 1 → bit x t ≡ true
@@ -80,40 +85,41 @@ unfolding bit
 bit-low x n t h =
     let e : n - suc t + 1 + t ≡ n = omega arith in
     ap (λ y. eqb y 1)
-    (ap (λ k. x % 2 ^ k / 2 ^ t % 2) (sym e) ∙ ap (λ y. y % 2) (field x (n - suc t + 1) t) ∙ mod-mod-pow (x / 2 ^ t) (n - suc t) 1)
+    (ap (λ k. x % 2 ^ k / 2 ^ t % 2) (sym e) ∙ ap (λ y. y % 2) (field x (n - suc t + 1) t)
+    ∙ mod-mod-pow (x / 2 ^ t) (n - suc t) 1)
 
 -- what is shifted up by s has the bits from s on
 pub bit-shl : (x s t : ℕ) → bit (x * 2 ^ s) t ≡ (leb s t && bit x (t - s))
-bit-shl x s t = go (decLt t s)
-  where
-    go : Dec (t < s) → bit (x * 2 ^ s) t ≡ (leb s t && bit x (t - s))
-    go (yes h) =
-        sym (bit-low (x * 2 ^ s) s t h) ∙ ap (λ y. bit y t) (mul-mod-left x (2 ^ s)) ∙ bit-zero t
-        ∙ sym (ap (λ b. b && bit x (t - s)) (lt-leb s t h))
-    go (no h) =
-        let e : s + (t - s) ≡ t = omega arith in
-        ap (bit (x * 2 ^ s)) (sym e) ∙ sym (bit-shr (x * 2 ^ s) s (t - s)) ∙ ap (λ y. bit y (t - s)) (shl-shr x s)
-        ∙ sym (ap (λ b. b && bit x (t - s)) (le-leb s t (omega arith)))
+bit-shl x s t =
+    ⊎-elim
+    (λ h.
+    sym (bit-low (x * 2 ^ s) s t h) ∙ ap (λ y. bit y t) (mul-mod-left x (2 ^ s)) ∙ bit-zero t
+    ∙ sym (ap (λ b. b && bit x (t - s)) (lt-leb s t h)))
+    (λ h.
+    let e : s + (t - s) ≡ t = omega arith in
+    ap (bit (x * 2 ^ s)) (sym e) ∙ sym (bit-shr (x * 2 ^ s) s (t - s)) ∙ ap (λ y. bit y (t - s)) (shl-shr x s)
+    ∙ sym (ap (λ b. b && bit x (t - s)) (le-leb s t h)))
+    (less-or-not t s)
 
 -- a number with bit t is 2 ^ t or more
 pub bit-le : (x t : ℕ) → bit x t ≡ true → 2 ^ t ≤ x
-bit-le x t e = go (decLt x (2 ^ t))
-  where
-    go : Dec (x < 2 ^ t) → 2 ^ t ≤ x
-    go (yes h) = absurd (true≢false (sym e ∙ bit-over x t h))
-    go (no h) = omega arith
+bit-le x t e = ⊎-elim (λ h. absurd (true≢false (sym e ∙ bit-over x t h))) (λ h. h) (less-or-not x (2 ^ t))
 
 pub bit-pow : (s t : ℕ) → bit (2 ^ s) t ≡ eqb s t
 unfolding bit
 bit-pow zero zero = refl
-bit-pow zero (suc t) = rw (div-eq-of-lt {n = 1} {m = 2 ^ suc t} (pow-lt {i = 0} {j = suc t} (omega arith)), eqb·zero-suc t)
+bit-pow zero (suc t) =
+    rw (div-eq-of-lt {n = 1} {m = 2 ^ suc t} (pow-lt {i = 0} {j = suc t} (omega arith)), eqb·zero-suc t)
 bit-pow (suc s) zero = rw (div-one, pow-suc 2 s, mul-mod-left, eqb·suc-zero s)
-bit-pow (suc s) (suc t) = rw (pow-suc 2 s, pow-suc 2 t, mul-div-mul-right {m = 2} (2 ^ s) (2 ^ t) (omega arith), eqb·suc-suc s t) (bit-pow s t)
+bit-pow (suc s) (suc t) =
+    rw (pow-suc 2 s, pow-suc 2 t, mul-div-mul-right {m = 2} (2 ^ s) (2 ^ t) (omega arith), eqb·suc-suc s t)
+    (bit-pow s t)
 
 -- one bit more than a number below it
 pub bit-plus : (m x t : ℕ) → x < 2 ^ m → bit (2 ^ m + x) t ≡ eqb m t ⊕ bit x t
 bit-plus m x t h =
-    ap (λ y. bit y t) (ap (λ y. y + x) (sym (one-mul (2 ^ m))) ∙ sym (xor-shifted 1 m x h) ∙ ap (λ y. bitXor y x) (one-mul (2 ^ m)))
+    ap (λ y. bit y t)
+    (ap (λ y. y + x) (sym (one-mul (2 ^ m))) ∙ sym (xor-shifted 1 m x h) ∙ ap (λ y. bitXor y x) (one-mul (2 ^ m)))
     ∙ bit-xor (2 ^ m) x t ∙ ap (λ y. y ⊕ bit x t) (bit-pow m t)
 
 -- the code's 1 << s

@@ -2,16 +2,16 @@
 -- Assumes nothing.
 use mathlib.Core.Path.{_≡_, refl, sym, ap, _∙_}
 use mathlib.Core.Bool.{Bool, true, false, _||_, or-true}
+use mathlib.Core.Logic.{⊎-elim}
 use mathlib.Core.List.{List}
 use Prim.Native.Nat.{ℕ, zero, suc, _+_, _*_, _^_, _≤_, _<_}
 use native.Mathlib.Nat.{pow-succ'}
-use native.Mathlib.Decide.{decLt}
 use native.Mathlib.Omega.{arith}
 use lib.Dec.{eqb, ltb}
 use lib.ListN.{length, getD, List·getD-eq-default}
 use borrow.Author.Tests.{lt-ltb, le-ltb, eq-eqb, eqb-true}
 use Rattle.ground.specs.Bytes.{little, zerosFrom}
-use Rattle.ground.proofs.Folds.{every-all, every-at}
+use Rattle.ground.proofs.Folds.{less-or-not, every-all, every-at}
 
 -- n bytes, each below 256, make a number below 256 ^ n
 pub little-lt : (bytes : List ℕ) (at n : ℕ) → ((i : ℕ) → getD bytes i 0 < 256) → little bytes at n < 256 ^ n
@@ -34,25 +34,24 @@ little-four bytes at = let e : at + 2 ≡ at + 1 + 1 = omega arith in rw e (omeg
 -- where the bytes from `from` on are zeros, each of them is zero, also past the end
 pub zeros-at : (bytes : List ℕ) (from i : ℕ) → zerosFrom bytes from ≡ true → from ≤ i → getD bytes i 0 ≡ 0
 unfolding zerosFrom
-zeros-at bytes from i e h = go (decLt i (length bytes))
-  where
-    go : Dec (i < length bytes) → getD bytes i 0 ≡ 0
-    go (yes l) =
-        eqb-true (getD bytes i 0) 0
-        (ap (λ b. b || eqb (getD bytes i 0) 0) (sym (le-ltb i from h))
-        ∙ every-at (length bytes) (λ k. ltb k from || eqb (getD bytes k 0) 0) e i l)
-    go (no l) = List·getD-eq-default bytes 0 (omega arith)
+zeros-at bytes from i e h =
+    ⊎-elim
+    (λ l.
+    eqb-true (getD bytes i 0) 0
+    (ap (λ b. b || eqb (getD bytes i 0) 0) (sym (le-ltb i from h))
+    ∙ every-at (length bytes) (λ k. ltb k from || eqb (getD bytes k 0) 0) e i l))
+    (List·getD-eq-default bytes 0) (less-or-not i (length bytes))
 
 -- where each byte from `from` on is zero, they are zeros
 pub zeros-all : (bytes : List ℕ) (from : ℕ) → ((i : ℕ) → from ≤ i → i < length bytes → getD bytes i 0 ≡ 0)
     → zerosFrom bytes from ≡ true
 unfolding zerosFrom
 zeros-all bytes from p =
-    every-all (length bytes) (λ i. ltb i from || eqb (getD bytes i 0) 0) (λ i l. go i l (decLt i from))
-  where
-    go : (i : ℕ) → i < length bytes → Dec (i < from) → (ltb i from || eqb (getD bytes i 0) 0) ≡ true
-    go i l (yes h) = ap (λ b. b || eqb (getD bytes i 0) 0) (lt-ltb i from h)
-    go i l (no h) = ap (λ b. ltb i from || b) (eq-eqb (getD bytes i 0) 0 (p i (omega arith) l)) ∙ or-true (ltb i from)
+    every-all (length bytes) (λ i. ltb i from || eqb (getD bytes i 0) 0)
+    (λ i l.
+    ⊎-elim (λ h. ap (λ b. b || eqb (getD bytes i 0) 0) (lt-ltb i from h))
+    (λ h. ap (λ b. ltb i from || b) (eq-eqb (getD bytes i 0) 0 (p i h l)) ∙ or-true (ltb i from))
+    (less-or-not i from))
 
 -- one byte that is not zero is enough
 pub zeros-not : (bytes : List ℕ) (from i : ℕ) → from ≤ i → (getD bytes i 0 ≡ 0 → ⊥) → zerosFrom bytes from ≡ false

@@ -7,7 +7,6 @@ use mathlib.Core.List.{List}
 use Prim.Native.Nat.{ℕ, zero, suc, _+_, _-_, _*_, _/_, _%_, _^_, _≤_, _<_}
 use native.Mathlib.Nat.{mod-lt, mod-one, mod-eq-of-lt, two-pow-succ, zero-add, lt-of-le-of-lt}
 use native.Mathlib.Numerals.{one-add}
-use native.Mathlib.Decide.{decLt}
 use native.Mathlib.Omega.{arith}
 use lib.Dec.{eqb, lit<}
 use lib.ListN.{length, getD, replicate, length-replicate, List·getD-eq-default}
@@ -18,7 +17,7 @@ use borrow.Author.Tests.{eq-eqb, ne-eqb, eqb-true, eqb-false}
 use Rattle.ground.specs.Fold.{_⊕_}
 use Rattle.ground.specs.Bits.{bit, ofBits, bitAt, Words}
 use Rattle.ground.proofs.Xor.{⊕-comm}
-use Rattle.ground.proofs.Folds.{last-or-less}
+use Rattle.ground.proofs.Folds.{last-or-less, less-or-not}
 use Rattle.ground.proofs.Bits.{bit-xor, bit-and, bit-pow, bit-plus, bit-over, bit-zero}
 
 -- two digits with the same test
@@ -37,7 +36,8 @@ low-same zero a b p = mod-one a ∙ sym (mod-one b)
 low-same (suc n) a b p =
     ap (λ k. a % 2 ^ k) (sym (one-add n)) ∙ mod-pow-add a 1 n
     ∙ ap₂ (λ x y. x * 2 ^ n + y)
-    (digit-same (a / 2 ^ n % 2) (b / 2 ^ n % 2) (mod-lt (a / 2 ^ n) (lit< tt)) (mod-lt (b / 2 ^ n) (lit< tt)) (p n (omega arith)))
+    (digit-same (a / 2 ^ n % 2) (b / 2 ^ n % 2) (mod-lt (a / 2 ^ n) (lit< tt)) (mod-lt (b / 2 ^ n) (lit< tt))
+    (p n (omega arith)))
     (low-same n a b (λ t h. p t (omega arith)))
     ∙ sym (mod-pow-add b 1 n) ∙ ap (λ k. b % 2 ^ k) (one-add n)
 
@@ -75,9 +75,11 @@ bit-ofBits (suc n) g t h =
 -- one bit less: bit p is taken out
 pub bit-minus : (x p t : ℕ) → bit x p ≡ true → bit (x - 2 ^ p) t ≡ eqb p t ⊕ bit x t
 bit-minus x p t e =
-    let both : bitAnd x (2 ^ p) ≡ 2 ^ p = same-bits (suc p) (bitAnd x (2 ^ p)) (2 ^ p) (lt-of-le-of-lt (and-le-r x (2 ^ p)) less) less here in
+    let both : bitAnd x (2 ^ p) ≡ 2 ^ p
+    = same-bits (suc p) (bitAnd x (2 ^ p)) (2 ^ p) (lt-of-le-of-lt (and-le-r x (2 ^ p)) less) less here in
     let out : x - 2 ^ p ≡ bitXor x (2 ^ p) = omega (arith, xor-add-and x (2 ^ p), both) in
-    ap (λ y. bit y t) out ∙ bit-xor x (2 ^ p) t ∙ ⊕-comm (bit x t) (bit (2 ^ p) t) ∙ ap (λ y. y ⊕ bit x t) (bit-pow p t)
+    ap (λ y. bit y t) out ∙ bit-xor x (2 ^ p) t ∙ ⊕-comm (bit x t) (bit (2 ^ p) t)
+    ∙ ap (λ y. y ⊕ bit x t) (bit-pow p t)
   where
     less : 2 ^ p < 2 ^ suc p
     less = pow-lt (omega arith)
@@ -87,7 +89,8 @@ bit-minus x p t e =
     pick-one s false q = and-false (bit x s)
 
     here : (s : ℕ) → s < suc p → bit (bitAnd x (2 ^ p)) s ≡ bit (2 ^ p) s
-    here s h = bit-and x (2 ^ p) s ∙ ap (λ y. bit x s && y) (bit-pow p s) ∙ pick-one s (eqb p s) refl ∙ sym (bit-pow p s)
+    here s h =
+        bit-and x (2 ^ p) s ∙ ap (λ y. bit x s && y) (bit-pow p s) ∙ pick-one s (eqb p s) refl ∙ sym (bit-pow p s)
 
 -- 2 ^ n - 1 has every bit below n
 pub bit-ones : (n t : ℕ) → t < n → bit (2 ^ n - 1) t ≡ true
@@ -98,14 +101,16 @@ bit-ones n t h =
 
 -- a list of n small numbers is n words
 pub words-of : (n : ℕ) (ws : List ℕ) → length ws ≡ n → ((i : ℕ) → i < n → getD ws i 0 < 2 ^ 64) → Words n ws
-words-of n ws l h = record { long = l; small = λ i. go i (decLt i n) }
+words-of n ws l h = record { long = l; small = λ i. ⊎-elim (h i) (past i) (less-or-not i n) }
   where
-    go : (i : ℕ) → Dec (i < n) → getD ws i 0 < 2 ^ 64
-    go i (yes k) = h i k
-    go i (no k) = subst (λ x. x < 2 ^ 64) (sym (List·getD-eq-default ws 0 (let e : length ws ≤ i = omega arith in e))) (pow-pos 64)
+    past : (i : ℕ) → n ≤ i → getD ws i 0 < 2 ^ 64
+    past i k =
+        let e : length ws ≤ i = omega arith in
+        subst (λ x. x < 2 ^ 64) (sym (List·getD-eq-default ws 0 e)) (pow-pos 64)
 
 -- n words are their 64 n bits
-pub words-same : (n : ℕ) (a b : List ℕ) → Words n a → Words n b → ((k : ℕ) → k < 64 * n → bitAt a k ≡ bitAt b k) → a ≡ b
+pub words-same : (n : ℕ) (a b : List ℕ) → Words n a → Words n b → ((k : ℕ) → k < 64 * n → bitAt a k ≡ bitAt b k)
+    → a ≡ b
 unfolding bitAt
 words-same n a b wa wb p =
     ext-getD 0 a b (wa .long ∙ sym (wb .long))

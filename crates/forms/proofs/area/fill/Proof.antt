@@ -1,5 +1,6 @@
 -- `forms::area::fill` puts a row at count places from base on. The loop's invariant: the words below k are as they
--- are to be, and those from k on are as they were. The measure is what is left of the words to write. Assumes nothing.
+-- are to be, and those from k on are as they were. The measure is what is left of the words to write.
+-- Assumes nothing.
 use mathlib.Core.Path.{_≡_, refl, sym, _∙_}
 use mathlib.Core.Logic.{⊎-elim, inl, inr}
 use Prim.Native.Nat.{ℕ, _-_, _%_, _≤_, _<_}
@@ -7,9 +8,10 @@ use native.Mathlib.Omega.{arith}
 use lib.ListN.{length, getD}
 use lib.Seq.{ext-getD, getD-set-other}
 use borrow.Author.Needs.{needs}
+use Rattle.ground.proofs.Folds.{less-or-not}
 use Rattle.ground.proofs.Tabs.{filled-more}
 use Rattle.forms.specs.Area.{putRows}
-use Rattle.forms.proofs.Areas.{less-or-not, length-putRows, word-put, word-kept}
+use Rattle.forms.proofs.Areas.{length-putRows, word-put, word-kept}
 use Rattle.forms.proofs.area.fill.Statement.{statement}
 use Rattle.forms.proofs.area.fill.Tie as tie
 

@@ -1,5 +1,5 @@
--- `forms::area::load` gives the row at a place. The loop's invariant: the words of the row below k are the area's, and
--- those from k on are zero. The measure is what is left of the words to read. Assumes nothing.
+-- `forms::area::load` gives the row at a place. The loop's invariant: the words of the row below k are the area's,
+-- and those from k on are zero. The measure is what is left of the words to read. Assumes nothing.
 use mathlib.Core.Path.{_≡_, refl, sym, ap, _∙_}
 use mathlib.Core.Logic.{⊎-elim}
 use Prim.Native.Nat.{ℕ, _+_, _-_, _*_, _%_, _≤_, _<_}
@@ -7,9 +7,9 @@ use native.Mathlib.Omega.{arith}
 use lib.ListN.{length, getD, getD-replicate, List·getD-eq-default}
 use lib.Seq.{getD-set-other}
 use borrow.Author.Needs.{needs}
+use Rattle.ground.proofs.Folds.{less-or-not}
 use Rattle.ground.proofs.Tabs.{filled-more, tab-is}
 use Rattle.forms.specs.Area.{rowAt}
-use Rattle.forms.proofs.Areas.{less-or-not}
 use Rattle.forms.proofs.area.load.Statement.{statement}
 use Rattle.forms.proofs.area.load.Tie as tie
 

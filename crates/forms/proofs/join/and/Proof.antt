@@ -41,7 +41,8 @@ loop-again : tie.Need-loop-again Inv-loop μ-loop
 loop-again c =
     let joined = c .before .before .join-term .ensures in
     adding-more _ _ _ _ _ _ _ (c .before .before .before .before .before .before .loop .inv)
-    (c .before .before .before .before .before .loop-test .taken) (joined .words) (joined .bits) (c .next-term2 .ensures)
+    (c .before .before .before .before .before .loop-test .taken) (joined .words) (joined .bits)
+    (c .next-term2 .ensures)
 
 returns : tie.Need-returns Inv-loop μ-loop
 returns c m f g few ea eb =

@@ -7,7 +7,8 @@ use borrow.Author.Needs.{needs}
 use lib.Bits.{bitOr}
 use lib.Dec.{eqb}
 use Rattle.ground.specs.Bits.{bitAt}
-use Rattle.forms.proofs.Joining.{flip-words, flip-bit, Adding, adding-first, adding-more, adding-done, union-lt}
+use Rattle.forms.proofs.Joining.{flip-words, flip-bit, union-lt}
+use Rattle.forms.proofs.Joining.{Adding, adding-first, adding-more, adding-done}
 use Rattle.forms.proofs.join.join_term.Statement.{statement}
 use Rattle.forms.proofs.join.join_term.Tie as tie
 

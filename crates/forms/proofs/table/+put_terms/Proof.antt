@@ -1,7 +1,7 @@
 -- `put_terms` goes by halves: no term gives zeros, one bit gives ones, and two halves are joined at their parameter.
 -- Assumes nothing.
-use mathlib.Core.Path.{_≡_, sym, ap, _∙_}
-use Prim.Native.Nat.{ℕ, _+_, _-_, _*_, _%_, _^_, _≤_, _<_}
+use mathlib.Core.Path.{ap}
+use Prim.Native.Nat.{ℕ, _+_, _-_, _*_, _%_, _^_, _<_}
 use native.Mathlib.Omega.{arith}
 use borrow.Author.Needs.{needs}
 use borrow.Fn.Kinds.{In}
@@ -71,19 +71,20 @@ shl-half t c = search needs
 put-terms-requires : (t : ℕ) → put-terms-lts.Need-put-terms-requires (told t) (put-terms-at t) put-terms.Post
 put-terms-requires t c κs =
     let at = c .before .before .before in
-    (omega arith, (omega arith, halves-fit _ _ _ (c .if2 .left) (one-shl (at .args .p - 1) (omega arith)) (at .pre .1 .1) .0))
+    let fit = halves-fit _ _ _ (c .if2 .left) (one-shl (at .args .p - 1) (omega arith)) (at .pre .1 .1) in
+    (omega arith, (omega arith, fit .0))
 
 add-put-terms : (t : ℕ) → put-terms-lts.Need-add-put-terms (told t) (put-terms-at t) put-terms.Post
 add-put-terms t c =
     let at = c .before .before .before .before in
-    omega (arith, halves-fit _ _ _ (c .before .if2 .left) (one-shl (at .args .p - 1) (omega arith)) (at .pre .1 .1) .1)
+    let fit = halves-fit _ _ _ (c .before .if2 .left) (one-shl (at .args .p - 1) (omega arith)) (at .pre .1 .1) in
+    omega (arith, fit .1)
 
 put-terms-requires-2 : (t : ℕ) → put-terms-lts.Need-put-terms-requires-2 (told t) (put-terms-at t) put-terms.Post
 put-terms-requires-2 t c κs =
-    let at = c .before .before .before .before in (
-      omega arith,
-      (omega arith, halves-fit _ _ _ (c .before .if2 .left) (one-shl (at .args .p - 1) (omega arith)) (at .pre .1 .1) .1),
-    )
+    let at = c .before .before .before .before in
+    let fit = halves-fit _ _ _ (c .before .if2 .left) (one-shl (at .args .p - 1) (omega arith)) (at .pre .1 .1) in
+    (omega arith, (omega arith, fit .1))
 
 mix-requires : (t : ℕ) → put-terms-lts.Need-mix-requires (told t) (put-terms-at t) put-terms.Post
 mix-requires t c κs = search needs

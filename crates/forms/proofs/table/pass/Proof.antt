@@ -41,7 +41,8 @@ loop-again c =
       omega arith,
       search needs,
       passed-more _ (c .before .before .before .loop .r) _ _ _ (c .before .before .before .loop .inv .1)
-          (c .before .before .loop-test .taken) small (c .pass-word .ensures) (c .before .before .before .loop .inv .2),
+          (c .before .before .loop-test .taken) small (c .pass-word .ensures)
+          (c .before .before .before .loop .inv .2),
     )
 
 returns : tie.Need-returns Inv-loop μ-loop

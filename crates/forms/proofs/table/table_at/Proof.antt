@@ -24,7 +24,8 @@ truth-of-requires : tie.Need-truth-of-requires
 truth-of-requires c κs = search needs
 
 returns-3 : tie.Need-returns-3
-returns-3 c = table-here _ _ _ _ _ _ (c .before .before .before .if1 .left) (c .before .load .ensures) (c .truth-of .ensures)
+returns-3 c =
+    table-here _ _ _ _ _ _ (c .before .before .before .if1 .left) (c .before .load .ensures) (c .truth-of .ensures)
 
 pub table-at-spec : {M : Type 1} → statement M
 table-at-spec = tie.close (tie.spec returns returns-2 add-load load-requires truth-of-requires returns-3)

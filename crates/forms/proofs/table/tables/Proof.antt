@@ -2,7 +2,7 @@
 -- Assumes nothing.
 use mathlib.Core.Path.{_≡_, refl}
 use mathlib.Core.List.{List}
-use Prim.Native.Nat.{_-_, _≤_}
+use Prim.Native.Nat.{_-_, _≤_, _<_}
 use native.Mathlib.Omega.{arith}
 use borrow.Author.Needs.{needs}
 use lib.ListN.{length}
@@ -42,11 +42,13 @@ loop-less c = search needs
 
 loop-again : tie.Need-loop-again Inv-loop μ-loop
 loop-again c =
-    let sofar = c .before .before .before .before .before .loop .inv in (
+    let at = c .before .before .before .before .before .loop in
+    let sofar = at .inv in
+    let less : at .j < 12 = omega arith in (
       omega arith,
       search needs,
       λ rows h.
-          tables-more _ _ _ _ (formIn most rows) (sofar .1) (c .before .before .before .before .loop-test .taken)
+          tables-more _ _ _ _ (formIn most rows) (sofar .1) less
           (c .before .before .before .table-at .ensures rows h) (c .before .store .ensures) (sofar .2 rows h),
     )
 

@@ -1,6 +1,5 @@
 -- `value` reads the form's value off its truth values.
 -- Assumes nothing.
-use native.Mathlib.Omega.{arith}
 use borrow.Author.Needs.{needs}
 use Rattle.ground.specs.Bits.{bit, bitAt}
 use Rattle.forms.proofs.Widening.{value-here}

@@ -1,4 +1,5 @@
--- `bytes::two` meets its contract: the number of two bytes, by its definition, and zero past the end. Assumes nothing.
+-- `bytes::two` meets its contract: the number of two bytes, by its definition, and zero past the end.
+-- Assumes nothing.
 use mathlib.Core.Path.{sym}
 use native.Mathlib.Omega.{arith}
 use borrow.Author.Needs.{needs}
