@@ -1,0 +1,6 @@
+pub mod Limits
+pub mod Numbers
+pub mod Rules
+pub mod Signals
+pub mod Records
+pub mod Lists

@@ -1,0 +1,39 @@
+-- The limits of document 01, each named once; they belong to the state's own type, whose constants `Watcher::limits` ties to them.
+use Prim.Native.Nat.{ℕ}
+use Rattle.watcher.specs.declared.state.Limits.{Limits}
+
+-- records of a rule, signals of a list, parameters of a rule
+abbrev pub mostRecords : ℕ
+mostRecords = 16
+
+abbrev pub mostSignals : ℕ
+mostSignals = 16
+
+abbrev pub mostParameters : ℕ
+mostParameters = 12
+
+-- bytes of a rule or signal record, of a whole list, of a log record
+abbrev pub recordBytes : ℕ
+recordBytes = 8
+
+abbrev pub listBytes : ℕ
+listBytes = 128
+
+abbrev pub logBytes : ℕ
+logBytes = 16
+
+-- words of the work area
+abbrev pub areaWords : ℕ
+areaWords = 1664
+
+abbrev pub limitsOf : Limits
+limitsOf =
+    record {
+      records = mostRecords;
+      signals = mostSignals;
+      parameters = mostParameters;
+      «record_bytes» = recordBytes;
+      «list_bytes» = listBytes;
+      «log_bytes» = logBytes;
+      words = areaWords;
+    }

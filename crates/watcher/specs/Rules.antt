@@ -1,0 +1,93 @@
+-- The rule list: its layout, and the rule that it holds (document 01, "Lists on disk").
+use mathlib.Core.Bool.{Bool, true, false, not, _&&_, _||_, cond}
+use mathlib.Core.List.{List, [], _∷_}
+use Prim.Native.Nat.{ℕ, _+_, _*_, _/_, _%_}
+use lib.Dec.{eqb, leb, ltb}
+use lib.ListN.{length, getD}
+use Rattle.ground.specs.Fold.{every, some, tab}
+use Rattle.meaning.specs.Interval.{Interval, between, onward}
+use Rattle.meaning.specs.Rule.{Node, fixed, signal, both, either, next, until, previous, since}
+use Rattle.watcher.specs.Limits.{mostRecords, mostSignals, recordBytes, listBytes}
+
+-- byte i of record k of a list
+unfoldable pub byteOf : List ℕ → ℕ → ℕ → ℕ
+byteOf list k i = getD list (recordBytes * k + i) 0
+
+-- how many records a list has
+unfoldable pub recordsOf : List ℕ → ℕ
+recordsOf list = length list / recordBytes
+
+-- a length that is not a multiple of 8, or not 1 to 16 records
+unfoldable pub wrongLength : List ℕ → Bool
+wrongLength list = not (eqb (length list % recordBytes) 0) || (eqb (length list) 0 || ltb listBytes (length list))
+
+-- for each kind, which of the eight bytes are used: kind, left, right, zero, low, high, zero, zero
+unfoldable pub usedBytes : List (List Bool)
+usedBytes =
+    (false ∷ false ∷ false ∷ false ∷ false ∷ false ∷ false ∷ false ∷ [])
+    ∷ (true ∷ false ∷ false ∷ false ∷ false ∷ false ∷ false ∷ false ∷ [])
+    ∷ (true ∷ false ∷ false ∷ false ∷ false ∷ false ∷ false ∷ false ∷ [])
+    ∷ (true ∷ true ∷ false ∷ false ∷ false ∷ false ∷ false ∷ false ∷ [])
+    ∷ (true ∷ true ∷ true ∷ false ∷ false ∷ false ∷ false ∷ false ∷ [])
+    ∷ (true ∷ true ∷ true ∷ false ∷ false ∷ false ∷ false ∷ false ∷ [])
+    ∷ (true ∷ true ∷ false ∷ false ∷ true ∷ true ∷ false ∷ false ∷ [])
+    ∷ (true ∷ true ∷ true ∷ false ∷ true ∷ true ∷ false ∷ false ∷ [])
+    ∷ (true ∷ true ∷ false ∷ false ∷ true ∷ true ∷ false ∷ false ∷ [])
+    ∷ (true ∷ true ∷ true ∷ false ∷ true ∷ true ∷ false ∷ false ∷ [])
+    ∷ []
+
+unfoldable pub uses : ℕ → ℕ → Bool
+uses kind i = getD (getD usedBytes kind []) i false
+
+-- low is at most high, or high is 255, no upper end, and low is at most 254
+unfoldable pub fairLimits : ℕ → ℕ → Bool
+fairLimits low high = cond (eqb high 255) (leb low 254) (leb low high)
+
+-- byte i of record k is what the kind wants there: a kind 1 to 9, a signal number, an earlier record, fair limits
+unfoldable pub usedRight : List ℕ → ℕ → ℕ → Bool
+usedRight list k i =
+    cond (eqb i 0) (leb 1 (byteOf list k 0) && leb (byteOf list k 0) 9)
+    (cond (leb i 2) (ltb (byteOf list k i) (cond (eqb (byteOf list k 0) 3) mostSignals k))
+    (fairLimits (byteOf list k 4) (byteOf list k 5)))
+
+-- byte i of record k breaks the layout: byte 0 is no kind, a used byte is wrong, or one that the kind does not use is not zero
+unfoldable pub byteBreaks : List ℕ → ℕ → ℕ → Bool
+byteBreaks list k i = not (cond (eqb i 0 || uses (byteOf list k 0) i) (usedRight list k i) (eqb (byteOf list k i) 0))
+
+-- a record breaks the layout
+unfoldable pub recordBreaks : List ℕ → ℕ → Bool
+recordBreaks list k = some recordBytes (byteBreaks list k)
+
+unfoldable pub ruleBreaks : List ℕ → Bool
+ruleBreaks list = some (recordsOf list) (recordBreaks list)
+
+-- records i and j have the same eight bytes
+unfoldable pub sameRecord : List ℕ → ℕ → ℕ → Bool
+sameRecord list i j = every recordBytes (λ b. eqb (byteOf list i b) (byteOf list j b))
+
+-- two records have the same eight bytes: some record has an earlier twin
+unfoldable pub hasTwins : List ℕ → Bool
+hasTwins list = some (recordsOf list) (λ i. some i (sameRecord list i))
+
+-- low to high; high 255 means no upper end
+unfoldable pub intervalOf : ℕ → ℕ → Interval
+intervalOf low high = cond (eqb high 255) (onward low) (between low high)
+
+-- the record of a kind, with its bytes
+unfoldable pub nodeOf : (kind left right low high : ℕ) → Node
+nodeOf kind left right low high =
+    cond (eqb kind 1) (fixed true)
+    (cond (eqb kind 2) (fixed false)
+    (cond (eqb kind 3) (signal left)
+    (cond (eqb kind 4) (both left right)
+    (cond (eqb kind 5) (either left right)
+    (cond (eqb kind 6) (next left (intervalOf low high))
+    (cond (eqb kind 7) (until left right (intervalOf low high))
+    (cond (eqb kind 8) (previous left (intervalOf low high)) (since left right (intervalOf low high)))))))))
+
+unfoldable pub nodeIn : List ℕ → ℕ → Node
+nodeIn list k = nodeOf (byteOf list k 0) (byteOf list k 1) (byteOf list k 2) (byteOf list k 4) (byteOf list k 5)
+
+-- the rule in the first n records of a list
+unfoldable pub ruleIn : List ℕ → ℕ → List Node
+ruleIn list n = tab n (nodeIn list)
