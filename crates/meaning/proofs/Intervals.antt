@@ -8,7 +8,8 @@ use native.Mathlib.Nat.{sub-zero}
 use native.Mathlib.Omega.{arith}
 use lib.Dec.{leb}
 use borrow.Author.Tests.{leb-true, leb-false, le-leb, lt-leb}
-use Rattle.meaning.specs.Interval.{Interval, between, onward, distance, inside, shifts, shifted, Moved, gone, to, moved}
+use Rattle.meaning.specs.Interval.{Interval, between, onward, distance, inside, shifts, shifted, Moved, gone}
+use Rattle.meaning.specs.Interval.{to, moved}
 use Rattle.meaning.specs.Rule.{Node, fixed, signal, both, either, next, until, previous, since, shiftedNode}
 
 pub distance-same : (t : ℕ) → distance t t ≡ 0
@@ -43,7 +44,8 @@ abbrev pub movedTo : (Interval → Bool) → Interval → Moved → Bool
 movedTo f v gone = false
 movedTo f v (to n) = f (shifted v n)
 
--- a record is in the interval of shift n, seen from one side of the gap, exactly if it is in that of the moved shift, seen from the other
+-- a record is in the interval of shift n, seen from one side of the gap,
+-- exactly if it is in that of the moved shift, seen from the other
 pub inside-moved : (v : Interval) (n here mid other : ℕ) → n < shifts v → Amid here mid other
     → inside (shifted v n) here other ≡ movedTo (λ w. inside w mid other) v (moved v n here mid)
 unfolding inside shifts shifted moved
@@ -67,7 +69,8 @@ inside-moved (between low high) n here mid other h amid = go (leb (n + g) high) 
         (λ x. omega (arith, e)) (λ x. omega (arith, e)))
     go false q =
         let l : high < n + distance here mid = leb-false (n + distance here mid) high q in
-        ap (λ b. leb (low - n) (distance here other) && b) (lt-leb (distance here other) (high - n) (omega (arith, e)))
+        ap (λ b. leb (low - n) (distance here other) && b)
+        (lt-leb (distance here other) (high - n) (omega (arith, e)))
         ∙ and-false (leb (low - n) (distance here other))
 inside-moved (onward low) n here mid other h amid =
     let e : distance here other ≡ distance mid other + distance here mid = distance-amid here mid other amid in
@@ -75,13 +78,15 @@ inside-moved (onward low) n here mid other h amid =
     (λ x. omega arith) (λ x. omega arith)
 
 -- what holds of a shift that is gone, and of every shift there is, holds of a moved one
-pub moved-cases : (P : Moved → Type 0) (v : Interval) (n here other : ℕ) → P gone → ((k : ℕ) → k < shifts v → P (to k))
-    → P (moved v n here other)
+pub moved-cases : (P : Moved → Type 0) (v : Interval) (n here other : ℕ) → P gone
+    → ((k : ℕ) → k < shifts v → P (to k)) → P (moved v n here other)
 unfolding shifts moved
 moved-cases P (between low high) n here other p q = go (leb (n + distance here other) high) refl
   where
     go : (b : Bool) → leb (n + distance here other) high ≡ b → P (cond b (to (n + distance here other)) gone)
-    go true e = let l : n + distance here other ≤ high = leb-true (n + distance here other) high e in q (n + distance here other) (omega arith)
+    go true e =
+        let l : n + distance here other ≤ high = leb-true (n + distance here other) high e in
+        q (n + distance here other) (omega arith)
     go false e = p
 moved-cases P (onward low) n here other p q = q (min (n + distance here other) low) (omega arith)
 
