@@ -1,18 +1,17 @@
 -- Settings that give the parameters their values at a record of the log, and forms under them.
 -- Assumes nothing.
-use mathlib.Core.Path.{_≡_, refl, sym, ap, ap₂, _∙_, subst}
-use mathlib.Core.Bool.{Bool, true, false, _&&_}
+use mathlib.Core.Path.{_≡_, sym, ap, ap₂, _∙_, subst}
+use mathlib.Core.Bool.{Bool, false, _&&_}
 use mathlib.Core.List.{List}
 use Prim.Native.Nat.{ℕ, zero, suc, _+_, _-_, _≤_, _<_}
 use native.Mathlib.Nat.{add-zero}
 use native.Mathlib.Decide.{decLt}
 use native.Mathlib.Omega.{arith}
-use lib.ListN.{length, getD}
+use lib.ListN.{getD}
 use Rattle.ground.specs.Fold.{_⊕_}
 use Rattle.forms.specs.Form.{Form, constant, parameter, value}
 use Rattle.forms.specs.Area.{formIn}
 use Rattle.forms.proofs.Values.{value-constant, value-parameter, value-xor, value-and}
-use Rattle.meaning.specs.Interval.{shifts}
 use Rattle.meaning.specs.Rule.{Node, fixed, signal, both, either, next, until, previous, since, nodeAt, Earlier}
 use Rattle.meaning.specs.Rule.{Ordered, count, firstOf, shiftedNode, Entry}
 use Rattle.meaning.specs.Meaning.{meaning, values, parameterValues}

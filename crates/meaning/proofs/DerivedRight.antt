@@ -1,14 +1,13 @@
 -- The derived rows of a record of the log are right where its past rows are.
 -- Assumes nothing.
-use mathlib.Core.Path.{_≡_, refl, sym, ap, ap₂, _∙_, subst}
-use mathlib.Core.Bool.{Bool, true, false, _&&_, _||_, or-false}
-use mathlib.Core.List.{List, [], _++_}
+use mathlib.Core.Path.{_≡_, sym, ap, ap₂, _∙_, subst}
+use mathlib.Core.Bool.{Bool, false, _&&_, _||_, or-false}
+use mathlib.Core.List.{List}
 use Prim.Native.Nat.{ℕ, zero, suc, _+_, _≤_, _<_}
 use native.Mathlib.Omega.{arith}
-use lib.Dec.{ltb}
-use lib.ListN.{length, getD}
+use lib.ListN.{length}
 use borrow.Author.Tests.{lt-ltb, le-ltb}
-use Rattle.forms.specs.Form.{Form, constant, parameter, and, or, value}
+use Rattle.forms.specs.Form.{Form, constant, and, or, value}
 use Rattle.forms.specs.Area.{formIn}
 use Rattle.forms.proofs.Values.{value-constant, value-parameter, value-and, value-or}
 use Rattle.meaning.specs.Interval.{Interval, inside, shifts, shifted, moved}
@@ -21,8 +20,7 @@ use Rattle.meaning.proofs.Blocks.{rows-none, rows-more, length-derivedR
 use Rattle.meaning.proofs.Intervals.{movedTo, moved-cases}
 use Rattle.meaning.proofs.Unrolling.{until-last, until-step}
 use Rattle.meaning.proofs.Looking.{Future, reach, reach-future}
-use Rattle.meaning.proofs.Agreement.{recordValue, shiftValue, Agrees, agrees-down, agrees-new, block-fits}
-use Rattle.meaning.proofs.Agreement.{forms-value}
+use Rattle.meaning.proofs.Agreement.{recordValue, Agrees, agrees-down, agrees-new, block-fits, forms-value}
 use Rattle.meaning.proofs.RowsRight.{RightRow, RightRows, from-reach, rows-agree, value-onlyIf, value-put}
 use Rattle.meaning.proofs.RowsRight.{put-value}
 

@@ -2,11 +2,11 @@
 -- Assumes nothing.
 use mathlib.Core.Path.{_≡_, refl, sym, ap, _∙_, subst}
 use mathlib.Core.Bool.{Bool}
-use mathlib.Core.List.{List, [], _∷_, _++_, append-nil}
-use Prim.Native.Nat.{ℕ, zero, suc, _+_, _-_, _≤_, _<_}
+use mathlib.Core.List.{List, [], _∷_, _++_}
+use Prim.Native.Nat.{ℕ, suc, _+_, _-_, _≤_, _<_}
 use native.Mathlib.Nat.{le-refl}
 use native.Mathlib.Omega.{arith}
-use lib.ListN.{length, getD, length-append, List·getD-append}
+use lib.ListN.{length, length-append, List·getD-append}
 use Rattle.forms.specs.Form.{Form, constant, value}
 use Rattle.forms.specs.Area.{formIn}
 use Rattle.forms.proofs.Depends.{constant-is}
@@ -14,7 +14,7 @@ use Rattle.meaning.specs.Rule.{Node, Ordered, firstOf, Entry, entryAt, t
 use Rattle.meaning.specs.Meaning.{valueOf}
 use Rattle.meaning.specs.Rewriting.{Neighbour, none, at, derivedRows}
 use Rattle.meaning.specs.Words.{Known, start, first, feed, close, fed}
-use Rattle.meaning.proofs.Agreement.{Agrees, agrees-down, forms-value}
+use Rattle.meaning.proofs.Agreement.{Agrees, forms-value}
 use Rattle.meaning.proofs.RowsRight.{RightRows, rows-agree, value-put}
 use Rattle.meaning.proofs.DerivedRight.{Ahead, ahead-down, Follows, derived-right}
 use Rattle.meaning.proofs.PastRight.{past-right-first, past-right-later}

@@ -1,12 +1,12 @@
 -- The past rows of a record of the log are right where the derived rows of the record before are.
 -- Assumes nothing.
-use mathlib.Core.Path.{_≡_, refl, sym, ap, ap₂, _∙_, subst}
-use mathlib.Core.Bool.{Bool, true, false, _&&_, _||_, or-false}
-use mathlib.Core.List.{List, [], _++_}
+use mathlib.Core.Path.{_≡_, sym, ap, ap₂, _∙_, subst}
+use mathlib.Core.Bool.{Bool, false, _&&_, _||_, or-false}
+use mathlib.Core.List.{List, []}
 use Prim.Native.Nat.{ℕ, zero, suc, _+_, _≤_, _<_}
 use native.Mathlib.Omega.{arith}
-use lib.ListN.{length, getD}
-use Rattle.forms.specs.Form.{Form, constant, parameter, and, or, value}
+use lib.ListN.{length}
+use Rattle.forms.specs.Form.{Form, constant, or, value}
 use Rattle.forms.specs.Area.{formIn}
 use Rattle.forms.proofs.Values.{value-constant, value-parameter, value-and, value-or}
 use Rattle.meaning.specs.Interval.{Interval, inside, shifts, shifted, moved}
@@ -19,7 +19,7 @@ use Rattle.meaning.proofs.Blocks.{rows-none, rows-more, length-pastRows
 use Rattle.meaning.proofs.Intervals.{movedTo, moved-cases}
 use Rattle.meaning.proofs.Unrolling.{since-first, since-step}
 use Rattle.meaning.proofs.Looking.{Future, reach, reach-future}
-use Rattle.meaning.proofs.Agreement.{recordValue, shiftValue, Agrees, agrees-down, agrees-new, block-fits}
+use Rattle.meaning.proofs.Agreement.{recordValue, Agrees, agrees-down, agrees-new, block-fits}
 use Rattle.meaning.proofs.RowsRight.{RightRow, RightRows, from-reach, rows-agree, value-onlyIf, value-put}
 use Rattle.meaning.proofs.RowsRight.{put-value}
 use Rattle.meaning.proofs.DerivedRight.{now-right}

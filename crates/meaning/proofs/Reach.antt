@@ -1,21 +1,18 @@
 -- Forms and derived rows look back: which records' parameters they name.
 -- Assumes nothing.
-use mathlib.Core.Path.{_≡_, refl, sym, subst}
-use mathlib.Core.Bool.{Bool, true, false, cond}
+use mathlib.Core.Path.{_≡_, sym, subst}
+use mathlib.Core.Bool.{Bool, false}
 use mathlib.Core.List.{List, [], _∷_, _++_}
-use Prim.Native.Nat.{ℕ, zero, suc, _+_, _≤_, _<_, min}
+use Prim.Native.Nat.{ℕ, zero, suc, _+_, _≤_, _<_}
 use native.Mathlib.Nat.{add-zero}
 use native.Mathlib.Decide.{decLt}
 use native.Mathlib.Omega.{arith}
-use lib.Dec.{leb}
 use lib.ListN.{length}
-use borrow.Author.Tests.{leb-true}
 use Rattle.forms.specs.Form.{Form, constant, parameter, DependsOn}
 use Rattle.forms.specs.Area.{formIn}
 use Rattle.forms.proofs.Depends.{depends-constant, depends-parameter, depends-xor, depends-and, depends-or}
 use Rattle.forms.proofs.Depends.{depends-putIn}
-use Rattle.meaning.specs.Interval.{Interval, between, onward, distance, inside, shifts, shifted}
-use Rattle.meaning.specs.Interval.{Moved, gone, to, moved}
+use Rattle.meaning.specs.Interval.{Interval, inside, shifts, shifted, moved}
 use Rattle.meaning.specs.Rule.{Node, fixed, signal, both, either, next, until, previous, since}
 use Rattle.meaning.specs.Rule.{nodeAt, Earlier, Ordered, count, firstOf, Entry, holds}
 use Rattle.meaning.specs.Rewriting.{Neighbour, none, at, put, onlyIf, formOf, formsOf, parameterTo}
@@ -23,7 +20,7 @@ use Rattle.meaning.specs.Rewriting.{nextRow, untilLater, derivedRow, der
 use Rattle.meaning.proofs.Blocks.{one-low, one-new, firstOf-more, firstOf-mono, Place, place}
 use Rattle.meaning.proofs.Blocks.{Rows, rows-none, rows-more, length-formsOf, length-derivedRows}
 use Rattle.meaning.proofs.Intervals.{moved-cases, shifts-pos}
-use Rattle.meaning.proofs.Looking.{Future, reach, reach-most, reach-past}
+use Rattle.meaning.proofs.Looking.{reach, reach-most}
 use Rattle.meaning.proofs.Shapes.{depends-onlyIf, depends-grows, depends-put}
 
 -- q is a parameter of one of the first k records

@@ -1,18 +1,16 @@
 -- Rows that have their parameters' values at a record of the log, under every setting that is right so far.
 -- Assumes nothing.
-use mathlib.Core.Path.{_≡_, refl, sym, ap, ap₂, _∙_, subst}
-use mathlib.Core.Bool.{Bool, true, false, _&&_, cond}
-use mathlib.Core.List.{List, [], _++_}
-use Prim.Native.Nat.{ℕ, zero, suc, _+_, _≤_, _<_}
+use mathlib.Core.Path.{_≡_, refl, _∙_}
+use mathlib.Core.Bool.{Bool, true, false, _&&_}
+use mathlib.Core.List.{List}
+use Prim.Native.Nat.{ℕ, zero, suc, _≤_, _<_}
 use native.Mathlib.Omega.{arith}
-use lib.ListN.{length, getD}
-use Rattle.ground.specs.Fold.{tab}
 use Rattle.forms.specs.Form.{Form, constant, value}
 use Rattle.forms.specs.Area.{formIn}
 use Rattle.forms.proofs.Values.{value-constant, value-putIn}
 use Rattle.meaning.specs.Rule.{Node, nodeAt, Ordered, firstOf, Entry}
 use Rattle.meaning.specs.Rewriting.{put, onlyIf, formsOf}
-use Rattle.meaning.proofs.Blocks.{Rows, rows-none, rows-more}
+use Rattle.meaning.proofs.Blocks.{Rows}
 use Rattle.meaning.proofs.Looking.{reach, reach-cases}
 use Rattle.meaning.proofs.Agreement.{recordValue, shiftValue, Agrees, agrees-up, forms-value}
 

@@ -4,7 +4,7 @@
 use mathlib.Core.Path.{_≡_, refl, sym, ap, _∙_, subst}
 use mathlib.Core.Bool.{Bool, true, false}
 use mathlib.Core.List.{List, [], _∷_, _++_, append-nil}
-use Prim.Native.Nat.{ℕ, suc, _+_, _≤_, _<_}
+use Prim.Native.Nat.{ℕ, suc, _≤_, _<_}
 use native.Mathlib.Nat.{le-refl}
 use native.Mathlib.Omega.{arith}
 use lib.ListN.{length, length-append}
@@ -20,8 +20,7 @@ use Rattle.forms.proofs.Reading.{which-true, which-false, which-is-true, which-
 use Rattle.meaning.specs.Rule.{Node, Ordered, firstOf, parameters, Entry, entryAt, timeAt, Rising}
 use Rattle.meaning.specs.Meaning.{parameterAt, valueOf}
 use Rattle.meaning.specs.Rewriting.{Neighbour, none, at, put, derivedRows}
-use Rattle.meaning.specs.Words.{Known, first, feed, close, fed, after, Word, kept, broken, pending, wordFor}
-use Rattle.meaning.specs.Words.{word}
+use Rattle.meaning.specs.Words.{Known, feed, close, after, Word, kept, broken, wordFor, word}
 use Rattle.meaning.proofs.Agreement.{Agrees, agrees-down}
 use Rattle.meaning.proofs.RowsRight.{rows-agree}
 use Rattle.meaning.proofs.DerivedRight.{Ahead, ahead-down}
