@@ -16,7 +16,7 @@ use Rattle.meaning.specs.Rule.{Node, fixed, signal, both, either, next, 
 use Rattle.meaning.specs.Rule.{Ordered, count, firstOf, shiftedNode, Entry}
 use Rattle.meaning.specs.Meaning.{meaning, values, parameterValues}
 use Rattle.meaning.specs.Rewriting.{formOf, formsOf}
-use Rattle.meaning.proofs.Blocks.{one-low, one-new, block-low, block-new, firstOf-more, length-values}
+use Rattle.meaning.proofs.Blocks.{one-new, block-low, block-new, firstOf-more, length-values}
 use Rattle.meaning.proofs.Blocks.{length-parameterValues, length-formsOf}
 use Rattle.meaning.proofs.Intervals.{shiftedNode-zero, shifts-pos}
 
@@ -40,8 +40,7 @@ module _ (log : List Entry) (rule : List Node) where
   unfolding values
   record-low k r i h =
       ap (λ (f : ℕ → Bool). f i)
-      (one-low (values log rule k) (meaning log (values log rule k) (nodeAt rule k)) k r (λ j. false)
-      (length-values log rule k) h)
+      (block-low (values log rule k) _ k r (λ j. false) (length-values log rule k) h)
 
   pub record-new : (k i : ℕ) → recordValue log rule (suc k) k i ≡ meaning log (values log rule k) (nodeAt rule k) i
   unfolding values
@@ -134,7 +133,7 @@ module _ (log : List Entry) (rule : List Node) (ordered : Ordered rule) (m : ℕ
       go : ((r : ℕ) → r < k → value m (formIn m (formsOf m rule k) r) ρ ≡ recordValue log rule k r i) → Dec (r < k)
           → value m (formIn m (formsOf m rule (suc k)) r) ρ ≡ recordValue log rule (suc k) r i
       go ih (yes l) =
-          ap (λ f. value m f ρ) (one-low forms here k r (constant m false) (length-formsOf m rule k) l)
+          ap (λ f. value m f ρ) (block-low forms _ k r (constant m false) (length-formsOf m rule k) l)
           ∙ ih r l ∙ sym (record-low log rule k r i l)
       go ih (no l) =
           let e : k ≡ r = omega arith in

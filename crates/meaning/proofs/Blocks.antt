@@ -17,13 +17,13 @@ use Rattle.meaning.specs.Meaning.{meaning, values, parameterValues}
 use Rattle.meaning.specs.Rewriting.{Neighbour, formOf, formsOf, derivedRow, derivedRows, pastRow, pastRows}
 
 module _ {A : Type 0} where
+  -- what stands in a list still stands there with more after it
+  pub block-low : (xs ys : List A) (o p : ℕ) (d : A) → length xs ≡ o → p < o → getD (xs ++ ys) p d ≡ getD xs p d
+  block-low xs ys o p d e h = List·getD-append xs ys d p (omega arith)
+
   -- a list with one element more
   pub length-one : (xs : List A) (y : A) (o : ℕ) → length xs ≡ o → length (xs ++ (y ∷ [])) ≡ suc o
   length-one xs y o e = length-append xs (y ∷ []) ∙ omega arith
-
-  pub one-low : (xs : List A) (y : A) (o p : ℕ) (d : A) → length xs ≡ o → p < o
-      → getD (xs ++ (y ∷ [])) p d ≡ getD xs p d
-  one-low xs y o p d e h = List·getD-append xs (y ∷ []) d p (omega arith)
 
   pub one-new : (xs : List A) (y : A) (o : ℕ) (d : A) → length xs ≡ o → getD (xs ++ (y ∷ [])) o d ≡ y
   one-new xs y o d e =
@@ -32,9 +32,6 @@ module _ {A : Type 0} where
   -- a list with a block more
   pub length-block : (xs : List A) (f : ℕ → A) (c o : ℕ) → length xs ≡ o → length (xs ++ tab c f) ≡ o + c
   length-block xs f c o e = length-append xs (tab c f) ∙ omega (arith, length-tab c f)
-
-  pub block-low : (xs ys : List A) (o p : ℕ) (d : A) → length xs ≡ o → p < o → getD (xs ++ ys) p d ≡ getD xs p d
-  block-low xs ys o p d e h = List·getD-append xs ys d p (omega arith)
 
   pub block-new : (xs : List A) (f : ℕ → A) (c o n : ℕ) (d : A) → length xs ≡ o → n < c
       → getD (xs ++ tab c f) (o + n) d ≡ f n
@@ -73,21 +70,17 @@ module _ (rule : List Node) where
     pub less : shift < count (nodeAt rule node)
     pub here : firstOf rule node + shift ≡ q
 
+  unfoldable pub place-grows : (k l q : ℕ) → k ≤ l → Place k q → Place l q
+  place-grows k l q h p =
+      record { node = p .node; shift = p .shift; before = omega (arith, p .before); less = p .less; here = p .here }
+
   pub place : (k q : ℕ) → q < firstOf rule k → Place k q
   unfolding firstOf
   place zero q h = let z : ⊥ = omega arith in absurd z
   place (suc k) q h = go (decLt q (firstOf rule k)) (place k q)
     where
       go : Dec (q < firstOf rule k) → (q < firstOf rule k → Place k q) → Place (suc k) q
-      go (yes l) r =
-          let p = r l in
-          record {
-            node = p .node;
-            shift = p .shift;
-            before = omega (arith, p .before);
-            less = p .less;
-            here = p .here;
-          }
+      go (yes l) r = place-grows k (suc k) q (omega arith) (r l)
       go (no l) r =
           record {
             node = k;
@@ -96,6 +89,16 @@ module _ (rule : List Node) where
             less = omega arith;
             here = omega arith;
           }
+
+  -- a parameter has one record
+  pub node-one : (j k i n : ℕ) → i < count (nodeAt rule j) → n < count (nodeAt rule k)
+      → firstOf rule j + i ≡ firstOf rule k + n → j ≡ k
+  node-one j k i n a b e = go (decLt j k) (decLt k j)
+    where
+      go : Dec (j < k) → Dec (k < j) → j ≡ k
+      go (yes l) y = let z : ⊥ = omega (arith, firstOf-mono (suc j) k l, firstOf-more j) in absurd z
+      go (no x) (yes l) = let z : ⊥ = omega (arith, firstOf-mono (suc k) j l, firstOf-more k) in absurd z
+      go (no x) (no y) = omega arith
 
   -- P holds of the row of each shift n of each of the first K records
   module _ {A : Type 0} (none : A) (P : ℕ → ℕ → A → Type 0) where

@@ -129,3 +129,8 @@ module _ (a b : ℕ) (g : ℕ → Bool) where
     pub someIn-or : someIn a b (λ i. g i || h i) ≡ (someIn a b g || someIn a b h)
     unfolding someIn
     someIn-or = fold-both _||_ false or-false ||-mid (b - a) (λ i. g (a + i)) (λ i. h (a + i))
+
+-- a factor that all share goes out
+pub someIn-factor : (a b : ℕ) (x : Bool) (g : ℕ → Bool) → someIn a b (λ j. x && g j) ≡ (x && someIn a b g)
+someIn-factor a b true g = refl
+someIn-factor a b false g = someIn-never a b (λ j. false) (λ i h l. refl)

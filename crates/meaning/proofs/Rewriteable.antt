@@ -10,13 +10,13 @@ use native.Mathlib.Omega.{arith}
 use lib.Dec.{leb, leb·zero, ltb}
 use lib.ListN.{length}
 use borrow.Author.Tests.{leb-true, le-leb, lt-leb, lt-ltb}
-use Rattle.ground.specs.Fold.{everyIn, someIn}
+use Rattle.ground.specs.Fold.{everyIn}
 use Rattle.meaning.specs.Interval.{Interval, between, onward, distance, inside}
 use Rattle.meaning.specs.Rule.{Entry, timeAt, Rising}
 use Rattle.meaning.specs.Meaning.{nextAt, untilAt, previousAt, sinceAt}
 use Rattle.meaning.proofs.Intervals.{distance-same, distance-amid}
 use Rattle.meaning.proofs.Ranges.{everyIn-none, everyIn-first, everyIn-all}
-use Rattle.meaning.proofs.Ranges.{someIn-first, someIn-never, someIn-cong}
+use Rattle.meaning.proofs.Ranges.{someIn-first, someIn-never, someIn-cong, someIn-factor}
 use Rattle.meaning.proofs.Waits.{both-true, and-make}
 use Rattle.meaning.proofs.Waits.{waits-found, waits-made, waits-within, waits-or, waits-not, waits-and}
 
@@ -71,11 +71,6 @@ share false y p q = refl
 turn : (x y z : Bool) → (x && (y && z)) ≡ (y && (x && z))
 turn true y z = refl
 turn false y z = sym (and-false y)
-
--- a factor that all share goes out
-someIn-factor : (a b : ℕ) (x : Bool) (g : ℕ → Bool) → someIn a b (λ j. x && g j) ≡ (x && someIn a b g)
-someIn-factor a b true g = refl
-someIn-factor a b false g = someIn-never a b (λ j. false) (λ i h l. refl)
 
 module _ (log : List Entry) where
   -- record j, seen from record i, is in the interval

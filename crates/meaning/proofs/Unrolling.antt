@@ -12,13 +12,8 @@ use Rattle.meaning.specs.Interval.{Interval, inside, shifts, shifted, Mo
 use Rattle.meaning.specs.Rule.{Entry, timeAt, Rising}
 use Rattle.meaning.specs.Meaning.{untilAt, sinceAt}
 use Rattle.meaning.proofs.Ranges.{everyIn-none, everyIn-first, everyIn-last, someIn-none, someIn-first}
-use Rattle.meaning.proofs.Ranges.{someIn-last, someIn-never, someIn-cong}
+use Rattle.meaning.proofs.Ranges.{someIn-last, someIn-never, someIn-cong, someIn-factor}
 use Rattle.meaning.proofs.Intervals.{movedTo, inside-moved}
-
--- a factor that all share goes out
-someIn-factor : (a b : ℕ) (x : Bool) (g : ℕ → Bool) → someIn a b (λ j. x && g j) ≡ (x && someIn a b g)
-someIn-factor a b true g = refl
-someIn-factor a b false g = someIn-never a b (λ j. false) (λ i h l. refl)
 
 -- the moved interval goes out
 someIn-moved : (v : Interval) (s : Moved) (a b : ℕ) (f : Interval → ℕ → Bool) (g : ℕ → Bool)
