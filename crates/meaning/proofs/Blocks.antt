@@ -115,11 +115,10 @@ module _ (rule : List Node) where
         more : List A
         more = rows ++ tab (count (nodeAt rule K)) f
 
-        top : (n : ℕ) → n < count (nodeAt rule K)
-            → P K n (getD (rows ++ tab (count (nodeAt rule K)) f) (firstOf rule K + n) none)
+        top : (n : ℕ) → n < count (nodeAt rule K) → P K n (getD more (firstOf rule K + n) none)
         top n c = subst (P K n) (sym (block-new rows f (count (nodeAt rule K)) (firstOf rule K) n none e c)) (new n c)
 
-        go : Dec (k < K) → P k n (getD (rows ++ tab (count (nodeAt rule K)) f) (firstOf rule k + n) none)
+        go : Dec (k < K) → P k n (getD more (firstOf rule k + n) none)
         go (yes l) =
             subst (P k n)
             (sym (block-low rows (tab (count (nodeAt rule K)) f) (firstOf rule K) (firstOf rule k + n) none e

@@ -1,7 +1,7 @@
 -- Horizons: how they order, which parameters end in time, and that finite upper ends give a rule one.
 -- Assumes nothing.
 use mathlib.Core.Path.{_≡_, refl, sym, ap, subst}
-use mathlib.Core.Bool.{Bool, true, false, cond, and-eq-true-iff}
+use mathlib.Core.Bool.{Bool, true, false, cond}
 use mathlib.Core.List.{List}
 use Prim.Native.Nat.{ℕ, zero, suc, _+_, _-_, _≤_, _<_, max}
 use native.Mathlib.Decide.{decLt}
@@ -15,6 +15,7 @@ use Rattle.meaning.specs.Rule.{Node, fixed, signal, both, either, next, 
 use Rattle.meaning.specs.Rule.{Ordered, count, firstOf, shiftedNode}
 use Rattle.meaning.specs.Horizon.{Horizon, within, never, larger, later, horizonOf, horizons, horizon}
 use Rattle.meaning.proofs.Blocks.{block-low, length-one, one-new, node-one}
+use Rattle.meaning.proofs.Intervals.{between-gives}
 
 -- from time t on, the horizon is over by time b
 abbrev pub Ends : Horizon → ℕ → ℕ → Type 0
@@ -51,10 +52,9 @@ ends-now (onward low) x t b e = absurd e
 
 pub ends-inside : (v : Interval) (x : Horizon) (t u b : ℕ) → t ≤ u → inside v t u ≡ true → Ends (later v x) t b
     → Ends x u b
-unfolding later inside distance
+unfolding later distance
 ends-inside (between low high) (within x) t u b h i e =
-    let reached = and-eq-true-iff (leb low (distance t u)) (leb (distance t u) high) .0 i in
-    omega (arith, leb-true (distance t u) high (reached .1))
+    omega (arith, between-gives low high t u i .1)
 ends-inside (between low high) never t u b h i e = absurd e
 ends-inside (onward low) x t u b h i e = absurd e
 

@@ -1,7 +1,7 @@
 -- Laws of intervals: what a gap makes of a shift.
 -- Assumes nothing.
-use mathlib.Core.Path.{_≡_, refl, sym, ap, ap₂, _∙_}
-use mathlib.Core.Bool.{Bool, true, false, _&&_, cond, and-false}
+use mathlib.Core.Path.{_≡_, refl, ap, ap₂, _∙_}
+use mathlib.Core.Bool.{Bool, true, false, _&&_, cond, and-false, and-eq-true-iff}
 use mathlib.Core.Logic.{_⊎_, inl, inr}
 use Prim.Native.Nat.{ℕ, _+_, _-_, _≤_, _<_, min}
 use native.Mathlib.Nat.{sub-zero}
@@ -11,10 +11,26 @@ use borrow.Author.Tests.{leb-true, leb-false, le-leb, lt-leb}
 use Rattle.meaning.specs.Interval.{Interval, between, onward, distance, inside, shifts, shifted, Moved, gone}
 use Rattle.meaning.specs.Interval.{to, moved}
 use Rattle.meaning.specs.Rule.{Node, fixed, signal, both, either, next, until, previous, since, shiftedNode}
+use Rattle.meaning.proofs.Ranges.{same-truth}
 
 pub distance-same : (t : ℕ) → distance t t ≡ 0
 unfolding distance
 distance-same t = omega arith
+
+-- what a test of an interval says of the distance, and what makes it pass
+pub between-gives : (low high here other : ℕ) → inside (between low high) here other ≡ true
+    → (low ≤ distance here other) × (distance here other ≤ high)
+unfolding inside
+between-gives low high here other e =
+    let p = and-eq-true-iff (leb low (distance here other)) (leb (distance here other) high) .0 e in
+    (leb-true low (distance here other) (p .0), leb-true (distance here other) high (p .1))
+
+pub between-made : (low high here other : ℕ) → low ≤ distance here other → distance here other ≤ high
+    → inside (between low high) here other ≡ true
+unfolding inside
+between-made low high here other l h =
+    and-eq-true-iff (leb low (distance here other)) (leb (distance here other) high) .1
+    (le-leb low (distance here other) l, le-leb (distance here other) high h)
 
 -- b lies between a and c
 abbrev pub Amid : ℕ → ℕ → ℕ → Type 0
@@ -27,17 +43,8 @@ distance-amid a b c (inr h) = omega (arith, h .0, h .1)
 
 -- two tests that pass together are equal
 tests-same : (a b c d : ℕ) → (a ≤ b → c ≤ d) → (c ≤ d → a ≤ b) → leb a b ≡ leb c d
-tests-same a b c d to′ from = go (leb a b) refl
-  where
-    go : (x : Bool) → leb a b ≡ x → leb a b ≡ leb c d
-    go true e = e ∙ sym (le-leb c d (to′ (leb-true a b e)))
-    go false e =
-        let l : b < a = leb-false a b e in
-        e ∙ sym (other (leb c d) refl l)
-      where
-        other : (y : Bool) → leb c d ≡ y → b < a → leb c d ≡ false
-        other true q l = let h : a ≤ b = from (leb-true c d q) in let z : ⊥ = omega arith in absurd z
-        other false q l = q
+tests-same a b c d to′ from =
+    same-truth (leb a b) (leb c d) (λ e. le-leb c d (to′ (leb-true a b e))) (λ e. le-leb a b (from (leb-true c d e)))
 
 -- f of the interval with the moved shift; false where the shift is gone
 abbrev pub movedTo : (Interval → Bool) → Interval → Moved → Bool

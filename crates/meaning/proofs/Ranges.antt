@@ -46,6 +46,12 @@ module _ {A : Type 0} (op : A → A → A) (e : A) where
         ∙ ap (λ x. op x (foldIn (suc a) b g))
         (foldIn-last a a g (omega arith) ∙ ap (λ x. op x (g a)) (foldIn-none a a g (omega arith)) ∙ left (g a))
 
+-- two truth values that are true together are equal
+pub same-truth : (x y : Bool) → (x ≡ true → y ≡ true) → (y ≡ true → x ≡ true) → x ≡ y
+same-truth true y f g = sym (f refl)
+same-truth false true f g = g refl
+same-truth false false f g = refl
+
 &&-mid : (a b c d : Bool) → (a && b && (c && d)) ≡ (a && c && (b && d))
 &&-mid true true c d = refl
 &&-mid true false c d = sym (and-false c)
