@@ -53,14 +53,14 @@ module _ (rule signals : List ℕ) where
   tests-fine a = rw (a .long, a .laid, a .apart, a .few, a .listed, a .named)
 
 -- tests that fail
-none-at : (n : ℕ) (g : ℕ → Bool) → some n g ≡ false → (i : ℕ) → i < n → g i ≡ false
+pub none-at : (n : ℕ) (g : ℕ → Bool) → some n g ≡ false → (i : ℕ) → i < n → g i ≡ false
 none-at n g e i h = go (g i) refl
   where
     go : (b : Bool) → g i ≡ b → g i ≡ false
     go true q = absurd (false≢true (sym e ∙ some-at n g i h q))
     go false q = q
 
-neither : (a b : Bool) → (a || b) ≡ false → (a ≡ false) × (b ≡ false)
+pub neither : (a b : Bool) → (a || b) ≡ false → (a ≡ false) × (b ≡ false)
 neither true b e = absurd (false≢true (sym e))
 neither false b e = (refl, e)
 

@@ -18,7 +18,7 @@ use Rattle.watcher.specs.Rules.{byteOf, recordsOf, wrongLength, usedByte
 use Rattle.watcher.specs.Rules.{byteBreaks, recordBreaks, ruleBreaks, sameRecord, hasTwins, intervalOf, nodeOf}
 use Rattle.watcher.specs.Rules.{nodeIn, ruleIn}
 use Rattle.watcher.specs.Signals.{signalBreaks, wrongSignals, namesMissing, limitOf}
-use Rattle.watcher.specs.Records.{wrongRecord, timeOf, temperatureOf, windOf, windMeets, meets, signalHolds}
+use Rattle.watcher.specs.Records.{wrongRecord, timeOf, windOf, windMeets, meets, signalHolds}
 use Rattle.watcher.specs.Records.{signalWord, entryOf}
 use Rattle.watcher.specs.Lists.{firstRefusal, manyParameters, listTests, listsRefusal}
 use Rattle.watcher.specs.Examples.{allIn, table, passes}
@@ -29,6 +29,6 @@ unfolding table passes fold someIn everyIn tab bit ofBits little constant parame
     untilAt sinceAt meaning values valueOf put onlyIf formOf formsOf parameterTo rowTo nextRow untilLater derivedRow
     derivedRows sinceEarlier pastRow pastRows start first feed close wordFor word refusalNumber byteOf recordsOf
     wrongLength usedBytes uses fairLimits usedRight byteBreaks recordBreaks ruleBreaks sameRecord hasTwins intervalOf
-    nodeOf nodeIn ruleIn signalBreaks wrongSignals namesMissing limitOf wrongRecord timeOf temperatureOf windOf
-    windMeets meets signalHolds signalWord entryOf firstRefusal manyParameters listTests listsRefusal
+    nodeOf nodeIn ruleIn signalBreaks wrongSignals namesMissing limitOf wrongRecord timeOf windOf windMeets meets
+    signalHolds signalWord entryOf firstRefusal manyParameters listTests listsRefusal
 examples = refl
