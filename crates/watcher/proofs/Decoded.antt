@@ -1,7 +1,7 @@
 -- What passes the checks of the lists is a rule of `meaning`.
 -- Assumes nothing.
 use mathlib.Core.Path.{_≡_, refl, sym, ap, _∙_, subst}
-use mathlib.Core.Bool.{Bool, true, false, not, _&&_, _||_, cond, false≢true}
+use mathlib.Core.Bool.{Bool, true, false, not, _&&_, _||_, cond, false≢true, and-eq-true-iff}
 use mathlib.Core.Logic.{⊎-elim}
 use mathlib.Core.List.{List, _++_}
 use Prim.Native.Nat.{ℕ, _+_, _*_, _%_, _≤_, _<_}
@@ -14,7 +14,6 @@ use Rattle.ground.proofs.Folds.{less-or-not, fold-cong, some-at}
 use Rattle.ground.proofs.Tabs.{length-tab, getD-tab, getD-tab-out, tab-cong}
 use Rattle.meaning.specs.Rule.{Node, fixed, signal, both, either, next, until, previous, since}
 use Rattle.meaning.specs.Rule.{nodeAt, Earlier, Ordered, parameters}
-use Rattle.meaning.proofs.Waits.{both-true}
 use Rattle.watcher.specs.declared.state.Refusal.{Refusal}
 use Rattle.watcher.specs.declared.state.Found.{Found}
 use Rattle.watcher.specs.declared.state.Found.the-variants.{Fine, Refused}
@@ -113,7 +112,7 @@ record-fine list k e =
     kind = byteOf list k 0
 
     kinds : (leb 1 kind ≡ true) × (leb kind 9 ≡ true)
-    kinds = both-true (leb 1 kind) (leb kind 9) (byte-fine list k 0 e (omega arith) refl)
+    kinds = and-eq-true-iff (leb 1 kind) (leb kind 9) .0 (byte-fine list k 0 e (omega arith) refl)
 
     other : uses kind 2 ≡ true → kind ≡ 3 → ⊥
     other u q = false≢true (sym (ap (λ x. uses x 2) q) ∙ u)
@@ -161,14 +160,14 @@ node-fine list k c a named =
 
     left : {j : ℕ} → kind ≡ j → (ltb 3 j && uses j 1) ≡ true → byteOf list k 1 < k
     left {j} q u =
-        let b = both-true (ltb 3 j) (uses j 1) u in
+        let b = and-eq-true-iff (ltb 3 j) (uses j 1) .0 u in
         let l : 3 < j = ltb-true 3 j (b .0) in
         a .left (omega arith) (ap (λ x. uses x 1) q ∙ b .1)
 
     children : {j : ℕ} → kind ≡ j → (ltb 3 j && uses j 1 && uses j 2) ≡ true
         → (byteOf list k 1 < k) × (byteOf list k 2 < k)
     children {j} q u =
-        let b = both-true (ltb 3 j && uses j 1) (uses j 2) u in
+        let b = and-eq-true-iff (ltb 3 j && uses j 1) (uses j 2) .0 u in
         (left q (b .0), a .right (ap (λ x. uses x 2) q ∙ b .1))
 
 -- the rule in the first n records of a list
