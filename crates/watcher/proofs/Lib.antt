@@ -1,3 +1,4 @@
 pub mod Order
 pub mod RecordLaws
+pub mod Channels
 pub mod Speed
