@@ -3,5 +3,6 @@ pub mod Numbers
 pub mod Rules
 pub mod Signals
 pub mod Records
+pub mod Speed
 pub mod Lists
 pub mod Examples

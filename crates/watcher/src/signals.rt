@@ -1,0 +1,68 @@
+// The signal list's layout, and the signals that a rule names.
+use crate::state::Watcher;
+use ground::bytes::byte;
+use ground::bytes::four;
+ghost use mathlib.Core.Path.{_≡_};
+ghost use mathlib.Core.Bool.{_&&_};
+ghost use Prim.Native.Nat.{_<_};
+ghost use lib.Dec.{eqb, leb};
+ghost use Rattle.ground.specs.Fold.{some};
+ghost use Rattle.watcher.specs.Rules.{byteOf, recordsOf};
+ghost use Rattle.watcher.specs.Signals.{signalBreaks, namesMissing};
+
+// Whether record k breaks the layout.
+pub(crate) fn signal_breaks(list: &[u8], k: usize) -> bool
+    requires { ⌜ k < recordsOf (now list) ⌝ }
+    ensures { λ r. ⌜ r ≡ signalBreaks (now (list .entry)) k ⌝ }
+{
+    let at = Watcher::RECORD_BYTES * k;
+    let channel = byte(list, at);
+    if channel < 1 {
+        return true;
+    }
+    if 5 < channel {
+        return true;
+    }
+    if 1 < byte(list, at + 1) {
+        return true;
+    }
+    four(list, at + 4) != 0
+}
+
+// Whether some record breaks the layout.
+pub(crate) fn bad_signals(list: &[u8]) -> bool
+    ensures { λ r. ⌜ r ≡ some (recordsOf (now (list .entry))) (signalBreaks (now (list .entry))) ⌝ }
+{
+    let records = list.len() / Watcher::RECORD_BYTES;
+    for k in 0..records {
+        if signal_breaks(list, k) {
+            return true;
+        }
+    }
+    false
+}
+
+// Whether record k of the rule names a signal that a list of so many does not define.
+fn names_missing_at(rule: &[u8], signals: usize, k: usize) -> bool
+    requires { ⌜ k < recordsOf (now rule) ⌝ }
+    ensures { λ r. ⌜ r ≡ (eqb (byteOf (now (rule .entry)) k 0) 3 && leb signals (byteOf (now (rule .entry)) k 1)) ⌝ }
+{
+    let at = Watcher::RECORD_BYTES * k;
+    if byte(rule, at) != 3 {
+        return false;
+    }
+    signals <= byte(rule, at + 1) as usize
+}
+
+// Whether some record of the rule does.
+pub(crate) fn names_missing(rule: &[u8], signals: usize) -> bool
+    ensures { λ r. ⌜ r ≡ namesMissing (now (rule .entry)) signals ⌝ }
+{
+    let records = rule.len() / Watcher::RECORD_BYTES;
+    for k in 0..records {
+        if names_missing_at(rule, signals, k) {
+            return true;
+        }
+    }
+    false
+}
