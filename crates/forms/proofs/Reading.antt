@@ -83,7 +83,8 @@ pub which-is-false : (m : ℕ) (f : Form m) → whichConstant m f ≡ False → 
 unfolding whichConstant
 which-is-false m f e = go (same m f (constant m true)) (same m f (constant m false)) refl e
   where
-    go : (a b : Bool) → same m f (constant m false) ≡ b → cond a True (cond b False Open) ≡ False → f ≡ constant m false
+    go : (a b : Bool) → same m f (constant m false) ≡ b → cond a True (cond b False Open) ≡ False
+        → f ≡ constant m false
     go true b q e = let z : _≡_ {A = ℕ} 0 1 = cc in let n : ⊥ = omega arith in absurd n
     go false true q e = same-eq m f (constant m false) q
     go false false q e = let z : _≡_ {A = ℕ} 0 1 = cc in let n : ⊥ = omega arith in absurd n

@@ -2,7 +2,6 @@
 -- Assumes nothing.
 use mathlib.Core.Path.{_≡_, refl, sym, ap, _∙_}
 use mathlib.Core.Bool.{Bool, true, false, not, _&&_, _||_, Bool·not-not}
-use lib.Dec.{T}
 use Rattle.ground.specs.Fold.{_⊕_}
 
 pub ⊕-false : (a : Bool) → a ⊕ false ≡ a
@@ -42,12 +41,3 @@ pub or-⊕ : (a b : Bool) → a ⊕ b ⊕ (a && b) ≡ (a || b)
 or-⊕ true true = refl
 or-⊕ true false = refl
 or-⊕ false b = ⊕-false b
-
--- a test that is passed, or not
-pub T-true : (b : Bool) → T b → b ≡ true
-T-true true t = refl
-T-true false t = absurd t
-
-pub T-false : (b : Bool) → (T b → ⊥) → b ≡ false
-T-false true h = absurd (h tt)
-T-false false h = refl

@@ -1,22 +1,23 @@
 -- Settings that give the parameters their values at a record of the log, and forms under them.
 -- Assumes nothing.
-use mathlib.Core.Path.{_≡_, refl, sym, ap, ap₂, _∙_, subst}
-use mathlib.Core.Bool.{Bool, true, false, _&&_}
+use mathlib.Core.Path.{_≡_, sym, ap, ap₂, _∙_, subst}
+use mathlib.Core.Bool.{Bool, false, _&&_}
 use mathlib.Core.List.{List}
 use Prim.Native.Nat.{ℕ, zero, suc, _+_, _-_, _≤_, _<_}
 use native.Mathlib.Nat.{add-zero}
 use native.Mathlib.Decide.{decLt}
 use native.Mathlib.Omega.{arith}
-use lib.ListN.{length, getD}
+use lib.ListN.{getD}
 use Rattle.ground.specs.Fold.{_⊕_}
 use Rattle.forms.specs.Form.{Form, constant, parameter, value}
 use Rattle.forms.specs.Area.{formIn}
 use Rattle.forms.proofs.Values.{value-constant, value-parameter, value-xor, value-and}
-use Rattle.meaning.specs.Interval.{shifts}
-use Rattle.meaning.specs.Rule.{Node, fixed, signal, both, either, next, until, previous, since, nodeAt, Earlier, Ordered, count, firstOf, shiftedNode, Entry}
+use Rattle.meaning.specs.Rule.{Node, fixed, signal, both, either, next, until, previous, since, nodeAt, Earlier}
+use Rattle.meaning.specs.Rule.{Ordered, count, firstOf, shiftedNode, Entry}
 use Rattle.meaning.specs.Meaning.{meaning, values, parameterValues}
 use Rattle.meaning.specs.Rewriting.{formOf, formsOf}
-use Rattle.meaning.proofs.Blocks.{one-low, one-new, block-low, block-new, firstOf-more, length-values, length-parameterValues, length-formsOf}
+use Rattle.meaning.proofs.Blocks.{one-new, block-low, block-new, firstOf-more, length-values}
+use Rattle.meaning.proofs.Blocks.{length-parameterValues, length-formsOf}
 use Rattle.meaning.proofs.Intervals.{shiftedNode-zero, shifts-pos}
 
 -- the value of record r, and of parameter p, among the first k records, at record i of the log
@@ -39,15 +40,17 @@ module _ (log : List Entry) (rule : List Node) where
   unfolding values
   record-low k r i h =
       ap (λ (f : ℕ → Bool). f i)
-      (one-low (values log rule k) (meaning log (values log rule k) (nodeAt rule k)) k r (λ j. false) (length-values log rule k) h)
+      (block-low (values log rule k) _ k r (λ j. false) (length-values log rule k) h)
 
   pub record-new : (k i : ℕ) → recordValue log rule (suc k) k i ≡ meaning log (values log rule k) (nodeAt rule k) i
   unfolding values
   record-new k i =
       ap (λ (f : ℕ → Bool). f i)
-      (one-new (values log rule k) (meaning log (values log rule k) (nodeAt rule k)) k (λ j. false) (length-values log rule k))
+      (one-new (values log rule k) (meaning log (values log rule k) (nodeAt rule k)) k (λ j. false)
+      (length-values log rule k))
 
-  parameter-low : (k p i : ℕ) → p < firstOf rule k → parameterValue log rule (suc k) p i ≡ parameterValue log rule k p i
+  parameter-low : (k p i : ℕ) → p < firstOf rule k
+      → parameterValue log rule (suc k) p i ≡ parameterValue log rule k p i
   unfolding parameterValues
   parameter-low k p i h =
       ap (λ (f : ℕ → Bool). f i)
@@ -70,7 +73,8 @@ module _ (log : List Entry) (rule : List Node) where
   agrees-new i k ρ a n h = a (firstOf rule k + n) (omega (arith, firstOf-more rule k)) ∙ parameter-new k n i h
 
   pub agrees-up : (i k : ℕ) (ρ : ℕ → Bool) → Agrees log rule i k ρ
-      → ((n : ℕ) → n < count (nodeAt rule k) → ρ (firstOf rule k + n) ≡ shiftValue log rule k n i) → Agrees log rule i (suc k) ρ
+      → ((n : ℕ) → n < count (nodeAt rule k) → ρ (firstOf rule k + n) ≡ shiftValue log rule k n i)
+      → Agrees log rule i (suc k) ρ
   agrees-up i k ρ a b p h = go (decLt p (firstOf rule k))
     where
       go : Dec (p < firstOf rule k) → ρ p ≡ parameterValue log rule (suc k) p i
@@ -81,7 +85,8 @@ module _ (log : List Entry) (rule : List Node) where
           subst (λ x. ρ x ≡ parameterValue log rule (suc k) x i) e
           (b (p - firstOf rule k) c ∙ sym (parameter-new k (p - firstOf rule k) i c))
 
-module _ (log : List Entry) (rule : List Node) (ordered : Ordered rule) (m : ℕ) (fits : (k : ℕ) → firstOf rule k ≤ m) where
+module _ (log : List Entry) (rule : List Node) (ordered : Ordered rule) (m : ℕ)
+    (fits : (k : ℕ) → firstOf rule k ≤ m) where
   pub block-fits : (k n : ℕ) → n < count (nodeAt rule k) → firstOf rule k + n < m
   block-fits k n h = omega (arith, fits (suc k), firstOf-more rule k)
 
@@ -95,16 +100,19 @@ module _ (log : List Entry) (rule : List Node) (ordered : Ordered rule) (m : ℕ
 
   -- a record's form has the record's value
   form-value : (i k : ℕ) (ρ : ℕ → Bool)
-      → ((r : ℕ) → r < k → value m (formIn m (formsOf m rule k) r) ρ ≡ recordValue log rule k r i) → (d : Node) → Earlier k d
+      → ((r : ℕ) → r < k → value m (formIn m (formsOf m rule k) r) ρ ≡ recordValue log rule k r i)
+      → (d : Node) → Earlier k d
       → (0 < count d → value m (parameter m (firstOf rule k)) ρ ≡ meaning log (values log rule k) d i)
       → value m (formOf m (formsOf m rule k) (firstOf rule k) d) ρ ≡ meaning log (values log rule k) d i
   unfolding formOf meaning Earlier count
   form-value i k ρ ih (fixed b) o own = value-constant m b ρ
   form-value i k ρ ih (signal s) o own = own (omega arith)
   form-value i k ρ ih (both l r) o own =
-      value-and m (formIn m (formsOf m rule k) l) (formIn m (formsOf m rule k) r) ρ ∙ ap₂ _&&_ (ih l (o .0)) (ih r (o .1))
+      value-and m (formIn m (formsOf m rule k) l) (formIn m (formsOf m rule k) r) ρ
+      ∙ ap₂ _&&_ (ih l (o .0)) (ih r (o .1))
   form-value i k ρ ih (either l r) o own =
-      value-xor m (formIn m (formsOf m rule k) l) (formIn m (formsOf m rule k) r) ρ ∙ ap₂ _⊕_ (ih l (o .0)) (ih r (o .1))
+      value-xor m (formIn m (formsOf m rule k) l) (formIn m (formsOf m rule k) r) ρ
+      ∙ ap₂ _⊕_ (ih l (o .0)) (ih r (o .1))
   form-value i k ρ ih (next l v) o own = own (omega arith)
   form-value i k ρ ih (until l r v) o own = own (shifts-pos v)
   form-value i k ρ ih (previous l v) o own = own (omega arith)
@@ -125,7 +133,7 @@ module _ (log : List Entry) (rule : List Node) (ordered : Ordered rule) (m : ℕ
       go : ((r : ℕ) → r < k → value m (formIn m (formsOf m rule k) r) ρ ≡ recordValue log rule k r i) → Dec (r < k)
           → value m (formIn m (formsOf m rule (suc k)) r) ρ ≡ recordValue log rule (suc k) r i
       go ih (yes l) =
-          ap (λ f. value m f ρ) (one-low forms here k r (constant m false) (length-formsOf m rule k) l)
+          ap (λ f. value m f ρ) (block-low forms _ k r (constant m false) (length-formsOf m rule k) l)
           ∙ ih r l ∙ sym (record-low log rule k r i l)
       go ih (no l) =
           let e : k ≡ r = omega arith in

@@ -1,7 +1,7 @@
 -- Horizons: how they order, which parameters end in time, and that finite upper ends give a rule one.
 -- Assumes nothing.
 use mathlib.Core.Path.{_≡_, refl, sym, ap, subst}
-use mathlib.Core.Bool.{Bool, true, false, cond, and-eq-true-iff}
+use mathlib.Core.Bool.{Bool, true, false, cond}
 use mathlib.Core.List.{List}
 use Prim.Native.Nat.{ℕ, zero, suc, _+_, _-_, _≤_, _<_, max}
 use native.Mathlib.Decide.{decLt}
@@ -14,7 +14,8 @@ use Rattle.meaning.specs.Interval.{to, moved}
 use Rattle.meaning.specs.Rule.{Node, fixed, signal, both, either, next, until, previous, since, nodeAt, Earlier}
 use Rattle.meaning.specs.Rule.{Ordered, count, firstOf, shiftedNode}
 use Rattle.meaning.specs.Horizon.{Horizon, within, never, larger, later, horizonOf, horizons, horizon}
-use Rattle.meaning.proofs.Blocks.{length-one, one-low, one-new, firstOf-more, firstOf-mono}
+use Rattle.meaning.proofs.Blocks.{block-low, length-one, one-new, node-one}
+use Rattle.meaning.proofs.Intervals.{between-gives}
 
 -- from time t on, the horizon is over by time b
 abbrev pub Ends : Horizon → ℕ → ℕ → Type 0
@@ -51,10 +52,9 @@ ends-now (onward low) x t b e = absurd e
 
 pub ends-inside : (v : Interval) (x : Horizon) (t u b : ℕ) → t ≤ u → inside v t u ≡ true → Ends (later v x) t b
     → Ends x u b
-unfolding later inside distance
+unfolding later distance
 ends-inside (between low high) (within x) t u b h i e =
-    let reached = and-eq-true-iff (leb low (distance t u)) (leb (distance t u) high) .0 i in
-    omega (arith, leb-true (distance t u) high (reached .1))
+    omega (arith, between-gives low high t u i .1)
 ends-inside (between low high) never t u b h i e = absurd e
 ends-inside (onward low) x t u b h i e = absurd e
 
@@ -93,18 +93,11 @@ by-none rule t b q h d =
 -- a parameter's record and shift are the only ones, so its horizon is theirs
 pub by-ends : (rule : List Node) (t b k n : ℕ) → n < count (nodeAt rule k) → By rule t b (firstOf rule k + n)
     → Ends (parameterHorizon rule k n) t b
-by-ends rule t b k n c d = go (decLt (d .node) k) (decLt k (d .node))
-  where
-    go : Dec (d .node < k) → Dec (k < d .node) → Ends (parameterHorizon rule k n) t b
-    go (yes l) y =
-        let z : ⊥ = omega (arith, firstOf-mono rule (suc (d .node)) k l, firstOf-more rule (d .node)) in absurd z
-    go (no x) (yes l) =
-        let z : ⊥ = omega (arith, firstOf-mono rule (suc k) (d .node) l, firstOf-more rule k) in absurd z
-    go (no x) (no y) =
-        let p : d .node ≡ k = omega arith in
-        let q : d .shift ≡ n = omega (arith, ap (firstOf rule) p) in
-        subst (λ x. Ends (parameterHorizon rule k x) t b) q
-        (subst (λ x. Ends (parameterHorizon rule x (d .shift)) t b) p (d .ends))
+by-ends rule t b k n c d =
+    let p : d .node ≡ k = node-one rule (d .node) k (d .shift) n (d .less) c (d .here) in
+    let q : d .shift ≡ n = omega (arith, ap (firstOf rule) p) in
+    subst (λ x. Ends (parameterHorizon rule k x) t b) q
+    (subst (λ x. Ends (parameterHorizon rule x (d .shift)) t b) p (d .ends))
 
 module _ (rule : List Node) where
   pub length-horizons : (k : ℕ) → length (horizons rule k) ≡ k
@@ -116,8 +109,7 @@ module _ (rule : List Node) where
   -- the horizons of the records before k, and of record k
   pub horizons-low : (k r : ℕ) → r < k → getD (horizons rule (suc k)) r never ≡ getD (horizons rule k) r never
   unfolding horizons
-  horizons-low k r h =
-      one-low (horizons rule k) (horizonOf (horizons rule k) (nodeAt rule k)) k r never (length-horizons k) h
+  horizons-low k r h = block-low (horizons rule k) _ k r never (length-horizons k) h
 
   pub horizons-new : (k : ℕ) → getD (horizons rule (suc k)) k never ≡ horizonOf (horizons rule k) (nodeAt rule k)
   unfolding horizons

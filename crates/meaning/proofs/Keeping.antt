@@ -1,7 +1,7 @@
 -- Forms, derived rows and past rows keep to the horizons of their records and parameters.
 -- Assumes nothing.
 use mathlib.Core.Path.{_≡_, refl, sym, subst}
-use mathlib.Core.Bool.{Bool, true, false}
+use mathlib.Core.Bool.{Bool, false}
 use mathlib.Core.List.{List}
 use Prim.Native.Nat.{ℕ, zero, suc, _+_, _≤_, _<_}
 use native.Mathlib.Nat.{add-zero}
@@ -19,9 +19,10 @@ use Rattle.meaning.specs.Horizon.{Horizon, never, larger, horizonOf, hor
 use Rattle.meaning.specs.Rewriting.{Neighbour, none, at, put, onlyIf, formOf, formsOf, parameterTo, rowTo}
 use Rattle.meaning.specs.Rewriting.{nextRow, untilLater, derivedRow, derivedRows, previousRow, sinceEarlier}
 use Rattle.meaning.specs.Rewriting.{pastRow, pastRows}
-use Rattle.meaning.proofs.Blocks.{one-low, one-new, firstOf-more, firstOf-mono, Rows, rows-none, rows-more}
+use Rattle.meaning.proofs.Blocks.{block-low, one-new, firstOf-more, firstOf-mono, Rows, rows-none, rows-more}
 use Rattle.meaning.proofs.Blocks.{length-formsOf, length-derivedRows, length-pastRows}
 use Rattle.meaning.proofs.Intervals.{moved-cases, shiftedNode-zero, shifts-pos}
+use Rattle.meaning.proofs.Shapes.{depends-onlyIf}
 use Rattle.meaning.proofs.Horizons.{Ends, ends-left, ends-right, ends-sooner, ends-now, ends-inside}
 use Rattle.meaning.proofs.Horizons.{ends-moved, parameterHorizon, By, horizons-low, horizons-new}
 
@@ -50,12 +51,6 @@ module _ (rule : List Node) (m : ℕ) where
 
   constant-waits : (t b : ℕ) (x : Bool) → Waits t b (constant m x)
   constant-waits t b x = depends-constant (By rule t b) m x
-
-  -- a form that stands only where a test passes
-  onlyIf-waits : (t b : ℕ) (x : Bool) (f : Form m) → (x ≡ true → Waits t b f) → Waits t b (onlyIf m x f)
-  unfolding onlyIf
-  onlyIf-waits t b true f d = d refl
-  onlyIf-waits t b false f d = constant-waits t b false
 
   -- every row of a table, also past its end
   keeps-all : (rows : List (Form m)) (K t u : ℕ) → length rows ≡ firstOf rule K → Keeps rows K t u
@@ -141,7 +136,7 @@ module _ (rule : List Node) (m : ℕ) where
         go : Dec (r < k) → FormsKeep k → Goal r
         go (yes l) keep = λ e.
             subst (Waits t b)
-            (sym (one-low (formsOf m rule k) form k r (constant m false) (length-formsOf m rule k) l))
+            (sym (block-low (formsOf m rule k) _ k r (constant m false) (length-formsOf m rule k) l))
             (keep r t b l (subst (λ x. Ends x t b) (horizons-low rule k r l) e))
         go (no l) keep = let q : k ≡ r = omega arith in subst Goal q (new keep)
 
@@ -158,7 +153,7 @@ module _ (rule : List Node) (m : ℕ) where
       derivedRow-keeps n b (both l r) w c p i = constant-waits u b false
       derivedRow-keeps n b (either l r) w c p i = constant-waits u b false
       derivedRow-keeps n b (next l v) w c p i =
-          onlyIf-waits u b (inside v (e .time) u) (formIn m (formsOf m rule k) l)
+          depends-onlyIf (By rule u b) m (inside v (e .time) u) (formIn m (formsOf m rule k) l)
           (λ y. forms-keep k l u b (w .earlier) (ends-inside v (getD (horizons rule k) l never) (e .time) u b h y i))
       derivedRow-keeps n b (until l r v) w c p i =
           let hl : Horizon = getD (horizons rule k) l never in
@@ -169,7 +164,7 @@ module _ (rule : List Node) (m : ℕ) where
           let now = inside (shifted v n) (e .time) (e .time) in
           let moves = parameterTo m (firstOf rule k) (moved v n (e .time) u) in
           depends-or (By rule u b) m (onlyIf m now (put m right derived)) (and m (put m left derived) moves)
-          (onlyIf-waits u b now (put m right derived)
+          (depends-onlyIf (By rule u b) m now (put m right derived)
           (λ y. put-waits right derived k (e .time) u b len keep
           (forms-keep k r (e .time) b (w .earlier .1) (ends-right hl hr (e .time) b i′))))
           (depends-and (By rule u b) m (put m left derived) moves
@@ -207,7 +202,7 @@ module _ (rule : List Node) (m : ℕ) where
       previousRow-keeps l b v none known h i = constant-waits (e .time) b false
       previousRow-keeps l b v (at t) known h i =
           let left : Form m = formIn m (formsOf m rule k) l in
-          onlyIf-waits (e .time) b (inside v (e .time) t) (put m (put m left derived) past)
+          depends-onlyIf (By rule (e .time) b) m (inside v (e .time) t) (put m (put m left derived) past)
           (λ y. put-waits (put m left derived) past k (e .time) (e .time) b len keep
           (put-waits left derived K t (e .time) b (known .1) (known .2)
           (forms-keep k l t b h (ends-sooner (getD (horizons rule k) l never) t (e .time) b (known .0) i))))
@@ -248,7 +243,7 @@ module _ (rule : List Node) (m : ℕ) where
           let now = inside (shifted v n) (e .time) (e .time) in
           depends-or (By rule (e .time) b) m (onlyIf m now (put m right past))
           (sinceEarlier m (formsOf m rule k) derived past (firstOf rule k) l v n (e .time) before)
-          (onlyIf-waits (e .time) b now (put m right past)
+          (depends-onlyIf (By rule (e .time) b) m now (put m right past)
           (λ y. put-waits right past k (e .time) (e .time) b len keep (forms-keep k r (e .time) b (w .earlier .1)
           (ends-right (getD (horizons rule k) l never) (getD (horizons rule k) r never) (e .time) b i))))
           (sinceEarlier-keeps l r n b v before known w i)

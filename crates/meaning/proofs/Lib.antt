@@ -1,8 +1,8 @@
 pub mod Blocks
+pub mod Ranges
 pub mod Intervals
 pub mod Looking
 pub mod Agreement
-pub mod Ranges
 pub mod Unrolling
 pub mod RowsRight
 pub mod DerivedRight

@@ -28,7 +28,8 @@ reach (previous l v) k = k
 reach (since l r v) k = k
 
 -- reach is k, and k + 1 for a record that looks ahead
-pub reach-cases : (P : ℕ → Type 0) (d : Node) (k : ℕ) → ((Future d → ⊥) → P k) → (Future d → P (suc k)) → P (reach d k)
+pub reach-cases : (P : ℕ → Type 0) (d : Node) (k : ℕ) → ((Future d → ⊥) → P k) → (Future d → P (suc k))
+    → P (reach d k)
 unfolding Future reach
 reach-cases P (fixed b) k p q = p (λ u. u)
 reach-cases P (signal s) k p q = p (λ u. u)

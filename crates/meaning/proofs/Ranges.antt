@@ -46,6 +46,12 @@ module _ {A : Type 0} (op : A → A → A) (e : A) where
         ∙ ap (λ x. op x (foldIn (suc a) b g))
         (foldIn-last a a g (omega arith) ∙ ap (λ x. op x (g a)) (foldIn-none a a g (omega arith)) ∙ left (g a))
 
+-- two truth values that are true together are equal
+pub same-truth : (x y : Bool) → (x ≡ true → y ≡ true) → (y ≡ true → x ≡ true) → x ≡ y
+same-truth true y f g = sym (f refl)
+same-truth false true f g = g refl
+same-truth false false f g = refl
+
 &&-mid : (a b c d : Bool) → (a && b && (c && d)) ≡ (a && c && (b && d))
 &&-mid true true c d = refl
 &&-mid true false c d = sym (and-false c)
@@ -129,3 +135,8 @@ module _ (a b : ℕ) (g : ℕ → Bool) where
     pub someIn-or : someIn a b (λ i. g i || h i) ≡ (someIn a b g || someIn a b h)
     unfolding someIn
     someIn-or = fold-both _||_ false or-false ||-mid (b - a) (λ i. g (a + i)) (λ i. h (a + i))
+
+-- a factor that all share goes out
+pub someIn-factor : (a b : ℕ) (x : Bool) (g : ℕ → Bool) → someIn a b (λ j. x && g j) ≡ (x && someIn a b g)
+someIn-factor a b true g = refl
+someIn-factor a b false g = someIn-never a b (λ j. false) (λ i h l. refl)

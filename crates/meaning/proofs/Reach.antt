@@ -1,29 +1,26 @@
 -- Forms and derived rows look back: which records' parameters they name.
 -- Assumes nothing.
-use mathlib.Core.Path.{_≡_, refl, sym, subst}
-use mathlib.Core.Bool.{Bool, true, false, cond}
+use mathlib.Core.Path.{_≡_, sym, subst}
+use mathlib.Core.Bool.{Bool, false}
 use mathlib.Core.List.{List, [], _∷_, _++_}
-use Prim.Native.Nat.{ℕ, zero, suc, _+_, _≤_, _<_, min}
+use Prim.Native.Nat.{ℕ, zero, suc, _+_, _≤_, _<_}
 use native.Mathlib.Nat.{add-zero}
 use native.Mathlib.Decide.{decLt}
 use native.Mathlib.Omega.{arith}
-use lib.Dec.{leb}
 use lib.ListN.{length}
-use borrow.Author.Tests.{leb-true}
 use Rattle.forms.specs.Form.{Form, constant, parameter, DependsOn}
 use Rattle.forms.specs.Area.{formIn}
 use Rattle.forms.proofs.Depends.{depends-constant, depends-parameter, depends-xor, depends-and, depends-or}
 use Rattle.forms.proofs.Depends.{depends-putIn}
-use Rattle.meaning.specs.Interval.{Interval, between, onward, distance, inside, shifts, shifted}
-use Rattle.meaning.specs.Interval.{Moved, gone, to, moved}
+use Rattle.meaning.specs.Interval.{Interval, inside, shifts, shifted, moved}
 use Rattle.meaning.specs.Rule.{Node, fixed, signal, both, either, next, until, previous, since}
 use Rattle.meaning.specs.Rule.{nodeAt, Earlier, Ordered, count, firstOf, Entry, holds}
 use Rattle.meaning.specs.Rewriting.{Neighbour, none, at, put, onlyIf, formOf, formsOf, parameterTo}
 use Rattle.meaning.specs.Rewriting.{nextRow, untilLater, derivedRow, derivedRows}
-use Rattle.meaning.proofs.Blocks.{one-low, one-new, firstOf-more, firstOf-mono, Place, place}
+use Rattle.meaning.proofs.Blocks.{block-low, one-new, firstOf-more, firstOf-mono, Place, place}
 use Rattle.meaning.proofs.Blocks.{Rows, rows-none, rows-more, length-formsOf, length-derivedRows}
 use Rattle.meaning.proofs.Intervals.{moved-cases, shifts-pos}
-use Rattle.meaning.proofs.Looking.{Future, reach, reach-most, reach-past}
+use Rattle.meaning.proofs.Looking.{reach, reach-most}
 use Rattle.meaning.proofs.Shapes.{depends-onlyIf, depends-grows, depends-put}
 
 -- q is a parameter of one of the first k records
@@ -110,7 +107,7 @@ module _ (rule : List Node) (ordered : Ordered rule) (m : ℕ) (fits : (k : ℕ)
           → DependsOn (Below rule (suc k)) m (formIn m (forms ++ (new ∷ [])) l)
       go old (yes b) =
           subst (DependsOn (Below rule (suc k)) m)
-          (sym (one-low forms new k l (constant m false) (length-formsOf m rule k) b)) (old l b)
+          (sym (block-low forms _ k l (constant m false) (length-formsOf m rule k) b)) (old l b)
       go old (no b) =
           let q : k ≡ l = omega arith in
           subst (λ x. DependsOn (Below rule (suc k)) m (formIn m (forms ++ (new ∷ [])) x)) q
@@ -127,7 +124,7 @@ module _ (rule : List Node) (ordered : Ordered rule) (m : ℕ) (fits : (k : ℕ)
     next-back l v here none h = depends-constant (Below rule (suc k)) m false
     next-back l v here (at other) h =
         depends-onlyIf (Below rule (suc k)) m (inside v here other) (formIn m (formsOf m rule k) l)
-        (back-grows rule m k (suc k) (formIn m (formsOf m rule k) l) (omega arith) (forms-back k l h))
+        (λ _. back-grows rule m k (suc k) (formIn m (formsOf m rule k) l) (omega arith) (forms-back k l h))
 
     put-now : (f : Form m) → DependsOn (Below rule (suc k)) m (put m f derived)
     put-now f = back-grows rule m k (suc k) (put m f derived) (omega arith) (put-back rule m f derived k long back)
@@ -158,7 +155,7 @@ module _ (rule : List Node) (ordered : Ordered rule) (m : ℕ) (fits : (k : ℕ)
         let right : Form m = put m (formIn m (formsOf m rule k) r) derived in
         depends-or (Below rule (suc k)) m (onlyIf m now right)
         (untilLater m (formsOf m rule k) derived (firstOf rule k) l v n (e .time) later)
-        (depends-onlyIf (Below rule (suc k)) m now right (put-now (formIn m (formsOf m rule k) r)))
+        (depends-onlyIf (Below rule (suc k)) m now right (λ _. put-now (formIn m (formsOf m rule k) r)))
         (later-back l v n (e .time) later own)
     row-back later n (previous l v) o own = put-back rule m (formIn m past (firstOf rule k + n)) derived k long back
     row-back later n (since l r v) o own = put-back rule m (formIn m past (firstOf rule k + n)) derived k long back

@@ -9,30 +9,15 @@ use native.Mathlib.Decide.{decLt}
 use native.Mathlib.Omega.{arith}
 use lib.Dec.{leb, leb·zero, ltb}
 use lib.ListN.{length}
-use borrow.Author.Tests.{leb-true, le-leb, lt-leb, lt-ltb}
-use Rattle.ground.specs.Fold.{everyIn, someIn}
+use borrow.Author.Tests.{le-leb, lt-leb, lt-ltb}
+use Rattle.ground.specs.Fold.{everyIn}
 use Rattle.meaning.specs.Interval.{Interval, between, onward, distance, inside}
 use Rattle.meaning.specs.Rule.{Entry, timeAt, Rising}
 use Rattle.meaning.specs.Meaning.{nextAt, untilAt, previousAt, sinceAt}
-use Rattle.meaning.proofs.Intervals.{distance-same, distance-amid}
+use Rattle.meaning.proofs.Intervals.{distance-same, between-gives, between-made, distance-amid}
 use Rattle.meaning.proofs.Ranges.{everyIn-none, everyIn-first, everyIn-all}
-use Rattle.meaning.proofs.Ranges.{someIn-first, someIn-never, someIn-cong}
-use Rattle.meaning.proofs.Waits.{both-true, and-make}
+use Rattle.meaning.proofs.Ranges.{someIn-first, someIn-never, someIn-cong, someIn-factor}
 use Rattle.meaning.proofs.Waits.{waits-found, waits-made, waits-within, waits-or, waits-not, waits-and}
-
--- what a test of an interval says of the distance, and what makes it pass
-between-gives : (low high here other : ℕ) → inside (between low high) here other ≡ true
-    → (low ≤ distance here other) × (distance here other ≤ high)
-unfolding inside
-between-gives low high here other e =
-    let p = both-true (leb low (distance here other)) _ e in
-    (leb-true low (distance here other) (p .0), leb-true (distance here other) high (p .1))
-
-between-made : (low high here other : ℕ) → low ≤ distance here other → distance here other ≤ high
-    → inside (between low high) here other ≡ true
-unfolding inside
-between-made low high here other l h =
-    and-make _ _ (le-leb low (distance here other) l) (le-leb (distance here other) high h)
 
 -- every gap inside the one interval is inside the other
 abbrev pub Within : Interval → Interval → Type 0
@@ -71,11 +56,6 @@ share false y p q = refl
 turn : (x y z : Bool) → (x && (y && z)) ≡ (y && (x && z))
 turn true y z = refl
 turn false y z = sym (and-false y)
-
--- a factor that all share goes out
-someIn-factor : (a b : ℕ) (x : Bool) (g : ℕ → Bool) → someIn a b (λ j. x && g j) ≡ (x && someIn a b g)
-someIn-factor a b true g = refl
-someIn-factor a b false g = someIn-never a b (λ j. false) (λ i h l. refl)
 
 module _ (log : List Entry) where
   -- record j, seen from record i, is in the interval

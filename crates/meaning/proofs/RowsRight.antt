@@ -1,18 +1,16 @@
 -- Rows that have their parameters' values at a record of the log, under every setting that is right so far.
 -- Assumes nothing.
-use mathlib.Core.Path.{_≡_, refl, sym, ap, ap₂, _∙_, subst}
-use mathlib.Core.Bool.{Bool, true, false, _&&_, cond}
-use mathlib.Core.List.{List, [], _++_}
-use Prim.Native.Nat.{ℕ, zero, suc, _+_, _≤_, _<_}
+use mathlib.Core.Path.{_≡_, refl, _∙_}
+use mathlib.Core.Bool.{Bool, true, false, _&&_}
+use mathlib.Core.List.{List}
+use Prim.Native.Nat.{ℕ, zero, suc, _≤_, _<_}
 use native.Mathlib.Omega.{arith}
-use lib.ListN.{length, getD}
-use Rattle.ground.specs.Fold.{tab}
 use Rattle.forms.specs.Form.{Form, constant, value}
 use Rattle.forms.specs.Area.{formIn}
 use Rattle.forms.proofs.Values.{value-constant, value-putIn}
 use Rattle.meaning.specs.Rule.{Node, nodeAt, Ordered, firstOf, Entry}
 use Rattle.meaning.specs.Rewriting.{put, onlyIf, formsOf}
-use Rattle.meaning.proofs.Blocks.{Rows, rows-none, rows-more}
+use Rattle.meaning.proofs.Blocks.{Rows}
 use Rattle.meaning.proofs.Looking.{reach, reach-cases}
 use Rattle.meaning.proofs.Agreement.{recordValue, shiftValue, Agrees, agrees-up, forms-value}
 
@@ -33,12 +31,13 @@ module _ (log : List Entry) (rule : List Node) (m : ℕ) where
     to-reach d k ρ a = reach-cases (λ x. A x ρ) d k (λ _. down k ρ a) (λ _. a)
 
     -- right rows make a right setting
-    pub rows-agree : (rows : List (Form m)) (K i : ℕ) → RightRows A rows K i → (k : ℕ) → k ≤ K → (ρ : ℕ → Bool) → A k ρ
-        → Agrees log rule i k (λ q. value m (formIn m rows q) ρ)
+    pub rows-agree : (rows : List (Form m)) (K i : ℕ) → RightRows A rows K i → (k : ℕ) → k ≤ K
+        → (ρ : ℕ → Bool) → A k ρ → Agrees log rule i k (λ q. value m (formIn m rows q) ρ)
     unfolding firstOf
     rows-agree rows K i ok zero h ρ a = λ p l. let z : ⊥ = omega arith in absurd z
     rows-agree rows K i ok (suc k) h ρ a =
-        agrees-up log rule i k (λ q. value m (formIn m rows q) ρ) (rows-agree rows K i ok k (omega arith) ρ (down k ρ a))
+        agrees-up log rule i k (λ q. value m (formIn m rows q) ρ)
+        (rows-agree rows K i ok k (omega arith) ρ (down k ρ a))
         (λ n c. ok k n h c ρ (to-reach (nodeAt rule k) k ρ a))
 
 pub value-onlyIf : (m : ℕ) (b : Bool) (f : Form m) (ρ : ℕ → Bool) → value m (onlyIf m b f) ρ ≡ (b && value m f ρ)
@@ -53,7 +52,8 @@ value-put m f rows ρ = value-putIn m m f (formIn m rows) ρ
 
 -- a record's form, with rows put in that give the parameters their values at record i
 pub put-value : (log : List Entry) (rule : List Node) → Ordered rule → (m : ℕ) → ((k : ℕ) → firstOf rule k ≤ m)
-    → (i k l : ℕ) (rows : List (Form m)) (ρ : ℕ → Bool) → Agrees log rule i k (λ q. value m (formIn m rows q) ρ) → l < k
+    → (i k l : ℕ) (rows : List (Form m)) (ρ : ℕ → Bool) → Agrees log rule i k (λ q. value m (formIn m rows q) ρ)
+    → l < k
     → value m (put m (formIn m (formsOf m rule k) l) rows) ρ ≡ recordValue log rule k l i
 put-value log rule ordered m fits i k l rows ρ a h =
     value-put m (formIn m (formsOf m rule k) l) rows ρ

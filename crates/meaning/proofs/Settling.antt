@@ -16,8 +16,7 @@ use Rattle.meaning.specs.Words.{Known, start, first, feed, fed, after, w
 use Rattle.meaning.proofs.Blocks.{length-derivedRows}
 use Rattle.meaning.proofs.Theorems.{wordOf, word-constant}
 use Rattle.meaning.proofs.Horizons.{Ends, By, by-none}
-use Rattle.meaning.proofs.Keeping.{Keeps, Before, forms-keep, put-waits, derivedRows-keep}
-use Rattle.meaning.proofs.Keeping.{pastRows-keep}
+use Rattle.meaning.proofs.Keeping.{Keeps, Before, forms-keep, put-waits, derivedRows-keep, pastRows-keep}
 
 -- times never fall, from time t on
 abbrev pub Climbs : ℕ → List Entry → Type 0

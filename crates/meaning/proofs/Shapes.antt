@@ -19,7 +19,7 @@ use Rattle.meaning.specs.Rewriting.{Neighbour, none, at, put, onlyIf, ro
 use Rattle.meaning.specs.Rewriting.{previousRow, sinceEarlier, pastRow, pastRows, derivedRows}
 use Rattle.meaning.specs.Words.{Known, first, feed, fed}
 use Rattle.meaning.proofs.Looking.{Future}
-use Rattle.meaning.proofs.Blocks.{firstOf-more, firstOf-mono, Place, place}
+use Rattle.meaning.proofs.Blocks.{firstOf-more, firstOf-mono, Place, place-grows, place, node-one}
 use Rattle.meaning.proofs.Blocks.{Rows, rows-none, rows-more, length-pastRows}
 
 -- q is a next or until parameter of one of the first k records
@@ -48,10 +48,11 @@ future-below rule k q f =
     let p = f .place in
     omega (arith, p .less, p .here, firstOf-more rule (p .node), firstOf-mono rule (suc (p .node)) k (p .before))
 
--- a form if a test passes depends on what the form does
-pub depends-onlyIf : (S : ℕ → Type 0) (m : ℕ) (b : Bool) (f : Form m) → DependsOn S m f → DependsOn S m (onlyIf m b f)
+-- a form if a test passes depends on what the form does where it passes
+pub depends-onlyIf : (S : ℕ → Type 0) (m : ℕ) (b : Bool) (f : Form m) → (b ≡ true → DependsOn S m f)
+    → DependsOn S m (onlyIf m b f)
 unfolding onlyIf
-depends-onlyIf S m true f h = h
+depends-onlyIf S m true f h = h refl
 depends-onlyIf S m false f h = depends-constant S m false
 
 -- S k are parameters of the first k records
@@ -79,11 +80,8 @@ module _ (rule : List Node) (m : ℕ) (S : ℕ → ℕ → Type 0) (grows : (k l
           (depends-constant (S K) m false)
 
 pub future-grows : (rule : List Node) (k l q : ℕ) → k ≤ l → FutureBefore rule k q → FutureBefore rule l q
-future-grows rule k l q h f = record { place = place-grows (f .place); future = f .future }
-  where
-    place-grows : Place rule k q → Place rule l q
-    place-grows p =
-        record { node = p .node; shift = p .shift; before = omega (arith, p .before); less = p .less; here = p .here }
+unfolding place-grows
+future-grows rule k l q h f = record { place = place-grows rule k l q h (f .place); future = f .future }
 
 pub decFuture : (d : Node) → Dec (Future d)
 unfolding Future
@@ -96,27 +94,17 @@ decFuture (until l r v) = yes tt
 decFuture (previous l v) = no (λ u. u)
 decFuture (since l r v) = no (λ u. u)
 
--- a parameter has one record
-pub place-one : (rule : List Node) (k q : ℕ) (p r : Place rule k q) → p .node ≡ r .node
-place-one rule k q p r = go (decLt (p .node) (r .node)) (decLt (r .node) (p .node))
-  where
-    apart : (p r : Place rule k q) → p .node < r .node → ⊥
-    apart p r h =
-        omega
-        (arith, p .less, p .here, r .here, firstOf-more rule (p .node), firstOf-mono rule (suc (p .node)) (r .node) h)
-
-    go : Dec (p .node < r .node) → Dec (r .node < p .node) → p .node ≡ r .node
-    go (yes h) g = absurd (apart p r h)
-    go (no h) (yes g) = absurd (apart r p g)
-    go (no h) (no g) = omega arith
-
 pub decFutureBefore : (rule : List Node) (k q : ℕ) → Dec (FutureBefore rule k q)
 decFutureBefore rule k q = go (decLt q (firstOf rule k))
   where
     at-place : (p : Place rule k q) → Dec (Future (nodeAt rule (p .node))) → Dec (FutureBefore rule k q)
     at-place p (yes u) = yes (record { place = p; future = u })
     at-place p (no u) =
-        no (λ f. u (subst (λ x. Future (nodeAt rule x)) (place-one rule k q (f .place) p) (f .future)))
+        no (λ f.
+        let r = f .place in
+        u (subst (λ x. Future (nodeAt rule x))
+        (node-one rule (r .node) (p .node) (r .shift) (p .shift) (r .less) (p .less) (r .here ∙ sym (p .here)))
+        (f .future)))
 
     go : Dec (q < firstOf rule k) → Dec (FutureBefore rule k q)
     go (yes l) = let p = place rule k q l in at-place p (decFuture (nodeAt rule (p .node)))
@@ -208,7 +196,7 @@ module _ (rule : List Node) (m : ℕ) (fits : (k : ℕ) → firstOf rule k ≤ m
     previous-shape l v here none = depends-constant (FutureBefore rule k) m false
     previous-shape l v here (at other) =
         depends-onlyIf (FutureBefore rule k) m (inside v here other) (put m (put m (formIn m forms l) derived) past)
-        (put-shaped (put m (formIn m forms l) derived) past k long shaped)
+        (λ _. put-shaped (put m (formIn m forms l) derived) past k long shaped)
 
     since-shape : (first l : ℕ) (v : Interval) (n here : ℕ) (before : Neighbour)
         → DependsOn (FutureBefore rule k) m (sinceEarlier m forms derived past first l v n here before)
@@ -234,7 +222,7 @@ module _ (rule : List Node) (m : ℕ) (fits : (k : ℕ) → firstOf rule k ≤ m
         depends-or (FutureBefore rule k) m (onlyIf m now (put m (formIn m forms r) past))
         (sinceEarlier m forms derived past (firstOf rule k) l v n (e .time) before)
         (depends-onlyIf (FutureBefore rule k) m now (put m (formIn m forms r) past)
-        (put-shaped (formIn m forms r) past k long shaped))
+        (λ _. put-shaped (formIn m forms r) past k long shaped))
         (since-shape (firstOf rule k) l v n (e .time) before)
 
   -- the past rows of any number of records have that shape, whatever the derived rows of the record before are

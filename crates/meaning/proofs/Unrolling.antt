@@ -11,13 +11,9 @@ use Rattle.ground.specs.Fold.{everyIn, someIn}
 use Rattle.meaning.specs.Interval.{Interval, inside, shifts, shifted, Moved, gone, to, moved}
 use Rattle.meaning.specs.Rule.{Entry, timeAt, Rising}
 use Rattle.meaning.specs.Meaning.{untilAt, sinceAt}
-use Rattle.meaning.proofs.Ranges.{everyIn-none, everyIn-first, everyIn-last, someIn-none, someIn-first, someIn-last, someIn-never, someIn-cong}
+use Rattle.meaning.proofs.Ranges.{everyIn-none, everyIn-first, everyIn-last, someIn-none, someIn-first}
+use Rattle.meaning.proofs.Ranges.{someIn-last, someIn-never, someIn-cong, someIn-factor}
 use Rattle.meaning.proofs.Intervals.{movedTo, inside-moved}
-
--- a factor that all share goes out
-someIn-factor : (a b : ℕ) (x : Bool) (g : ℕ → Bool) → someIn a b (λ j. x && g j) ≡ (x && someIn a b g)
-someIn-factor a b true g = refl
-someIn-factor a b false g = someIn-never a b (λ j. false) (λ i h l. refl)
 
 -- the moved interval goes out
 someIn-moved : (v : Interval) (s : Moved) (a b : ℕ) (f : Interval → ℕ → Bool) (g : ℕ → Bool)
@@ -33,7 +29,8 @@ turn false y z w = sym (and-false z)
 module _ (log : List Entry) (rising : Rising log) (left right : ℕ → Bool) where
   -- the present record itself
   here : (v : Interval) (i a b : ℕ) → b ≤ a
-      → (inside v (timeAt log i) (timeAt log i) && (right i && everyIn a b left)) ≡ (inside v (timeAt log i) (timeAt log i) && right i)
+      → (inside v (timeAt log i) (timeAt log i) && (right i && everyIn a b left))
+      ≡ (inside v (timeAt log i) (timeAt log i) && right i)
   here v i a b h =
       ap (λ x. inside v (timeAt log i) (timeAt log i) && (right i && x)) (everyIn-none a b left h)
       ∙ ap (λ x. inside v (timeAt log i) (timeAt log i) && x) (and-true (right i))
@@ -50,14 +47,17 @@ module _ (log : List Entry) (rising : Rising log) (left right : ℕ → Bool) wh
   -- one later record, seen from i and seen from i + 1
   later : (v : Interval) (n i j : ℕ) → n < shifts v → suc i ≤ j → j < length log
       → (inside (shifted v n) (timeAt log i) (timeAt log j) && (right j && everyIn i j left))
-      ≡ (left i && (movedTo (λ w. inside w (timeAt log (suc i)) (timeAt log j)) v (moved v n (timeAt log i) (timeAt log (suc i)))
+      ≡ (left i
+      && (movedTo (λ w. inside w (timeAt log (suc i)) (timeAt log j)) v
+      (moved v n (timeAt log i) (timeAt log (suc i)))
       && (right j && everyIn (suc i) j left)))
   later v n i j h l k =
       ap₂ (λ x y. x && (right j && y))
       (inside-moved v n (timeAt log i) (timeAt log (suc i)) (timeAt log j) h
       (inl (rising i (suc i) (omega arith) (omega arith), rising (suc i) j l k)))
       (everyIn-first i j left l)
-      ∙ turn (movedTo (λ w. inside w (timeAt log (suc i)) (timeAt log j)) v (moved v n (timeAt log i) (timeAt log (suc i))))
+      ∙ turn
+      (movedTo (λ w. inside w (timeAt log (suc i)) (timeAt log j)) v (moved v n (timeAt log i) (timeAt log (suc i))))
       (right j) (left i) (everyIn (suc i) j left)
 
   pub until-step : (v : Interval) (n i : ℕ) → n < shifts v → suc i < length log
@@ -84,7 +84,8 @@ module _ (log : List Entry) (rising : Rising log) (left right : ℕ → Bool) wh
   -- one earlier record, seen from i + 1 and seen from i
   earlier : (v : Interval) (n i j : ℕ) → n < shifts v → j ≤ i → suc i < length log
       → (inside (shifted v n) (timeAt log (suc i)) (timeAt log j) && (right j && everyIn (suc j) (suc (suc i)) left))
-      ≡ (left (suc i) && (movedTo (λ w. inside w (timeAt log i) (timeAt log j)) v (moved v n (timeAt log (suc i)) (timeAt log i))
+      ≡ (left (suc i)
+      && (movedTo (λ w. inside w (timeAt log i) (timeAt log j)) v (moved v n (timeAt log (suc i)) (timeAt log i))
       && (right j && everyIn (suc j) (suc i) left)))
   earlier v n i j h l k =
       ap₂ (λ x y. x && (right j && y))

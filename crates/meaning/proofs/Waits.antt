@@ -1,28 +1,16 @@
 -- What until and since have in common: a test at some number of a range, and another at every number of a part.
 -- Assumes nothing.
 use mathlib.Core.Path.{_≡_, refl, sym, ap, _∙_}
-use mathlib.Core.Bool.{Bool, true, false, not, cond, _&&_, _||_, or-self, or-false, false≢true}
+use mathlib.Core.Bool.{Bool, true, false, not, cond, _&&_, _||_, or-self, or-false, false≢true, and-eq-true-iff}
 use mathlib.Core.Logic.{_⊎_, inl, inr}
 use Prim.Native.Nat.{ℕ, zero, suc, _+_, _-_, _≤_, _<_}
 use native.Mathlib.Omega.{arith}
 use Rattle.ground.specs.Fold.{fold, some, everyIn, someIn}
 use Rattle.ground.proofs.Folds.{fold-through}
-use Rattle.meaning.proofs.Ranges.{everyIn-all, everyIn-at, everyIn-cong, everyIn-and}
+use Rattle.meaning.proofs.Ranges.{same-truth, everyIn-all, everyIn-at, everyIn-cong, everyIn-and}
 use Rattle.meaning.proofs.Ranges.{someIn-at, someIn-cong, someIn-or}
 
 -- truth values
-pub both-true : (x y : Bool) → (x && y) ≡ true → (x ≡ true) × (y ≡ true)
-both-true true y e = (refl, e)
-both-true false y e = absurd (false≢true e)
-
-pub and-make : (x y : Bool) → x ≡ true → y ≡ true → (x && y) ≡ true
-and-make x y e f = ap (λ z. z && y) e ∙ f
-
-same-truth : (x y : Bool) → (x ≡ true → y ≡ true) → (y ≡ true → x ≡ true) → x ≡ y
-same-truth true y f g = sym (f refl)
-same-truth false true f g = g refl
-same-truth false false f g = refl
-
 absorbed : (x y : Bool) → (x ≡ true → y ≡ true) → (x && y) ≡ x
 absorbed true y f = f refl
 absorbed false y f = refl
@@ -90,14 +78,14 @@ module _ (from to : ℕ) (low high : ℕ → ℕ) where
   pub waits-found : (test left right : ℕ → Bool) → waits test left right ≡ true → Wait test left right
   waits-found test left right e =
       let f : Found from to (λ j. test j && (right j && everyIn (low j) (high j) left)) = someIn-found from to _ e in
-      let t = both-true (test (f .place)) _ (f .passes) in
-      let r = both-true (right (f .place)) _ (t .1) in
+      let t = and-eq-true-iff (test (f .place)) _ .0 (f .passes) in
+      let r = and-eq-true-iff (right (f .place)) _ .0 (t .1) in
       record { end = f .place; reached = f .reached; below = f .below; tested = t .0; ended = r .0; kept = r .1 }
 
   pub waits-made : (test left right : ℕ → Bool) (j : ℕ) → from ≤ j → j < to → test j ≡ true → right j ≡ true
       → everyIn (low j) (high j) left ≡ true → waits test left right ≡ true
   waits-made test left right j h k p q r =
-      someIn-at from to _ j h k (and-make (test j) _ p (and-make (right j) _ q r))
+      someIn-at from to _ j h k (and-eq-true-iff (test j) _ .1 (p, and-eq-true-iff (right j) _ .1 (q, r)))
 
   pub waits-within : (test other left right : ℕ → Bool) → ((j : ℕ) → test j ≡ true → other j ≡ true)
       → (waits test left right && waits other left right) ≡ waits test left right
@@ -130,17 +118,19 @@ module _ (from to : ℕ) (low high : ℕ → ℕ) where
   waits-and nested test p q right =
       same-truth (waits test (λ k. p k && q k) right) (waits test p right && waits test q right)
       (λ e. apart (waits-found test _ right e))
-      (λ e. let h = both-true (waits test p right) _ e in
+      (λ e. let h = and-eq-true-iff (waits test p right) _ .0 e in
       let v = waits-found test p right (h .0) in let w = waits-found test q right (h .1) in
       together v w (nested (v .end) (w .end)))
     where
       apart : Wait test (λ k. p k && q k) right → (waits test p right && waits test q right) ≡ true
       apart w =
           let j = w .end in
-          let h = both-true (everyIn (low j) (high j) p) _ (sym (everyIn-and (low j) (high j) p q) ∙ w .kept) in
-          and-make (waits test p right) (waits test q right)
-          (waits-made test p right j (w .reached) (w .below) (w .tested) (w .ended) (h .0))
-          (waits-made test q right j (w .reached) (w .below) (w .tested) (w .ended) (h .1))
+          let all = sym (everyIn-and (low j) (high j) p q) ∙ w .kept in
+          let h = and-eq-true-iff (everyIn (low j) (high j) p) _ .0 all in
+          and-eq-true-iff (waits test p right) (waits test q right) .1 (
+            waits-made test p right j (w .reached) (w .below) (w .tested) (w .ended) (h .0),
+            waits-made test q right j (w .reached) (w .below) (w .tested) (w .ended) (h .1),
+          )
 
       kept-part : (g : ℕ → Bool) (j k : ℕ) → Part j k → everyIn (low j) (high j) g ≡ true
           → everyIn (low k) (high k) g ≡ true
@@ -148,7 +138,7 @@ module _ (from to : ℕ) (low high : ℕ → ℕ) where
 
       kept-both : (j : ℕ) → everyIn (low j) (high j) p ≡ true → everyIn (low j) (high j) q ≡ true
           → everyIn (low j) (high j) (λ k. p k && q k) ≡ true
-      kept-both j h k = everyIn-and (low j) (high j) p q ∙ and-make _ _ h k
+      kept-both j h k = everyIn-and (low j) (high j) p q ∙ and-eq-true-iff (everyIn (low j) (high j) p) _ .1 (h, k)
 
       together : (v : Wait test p right) (w : Wait test q right) → Part (v .end) (w .end) ⊎ Part (w .end) (v .end)
           → waits test (λ k. p k && q k) right ≡ true

@@ -12,10 +12,10 @@ use Rattle.forms.proofs.Depends.{putIn-constant, putIn-same}
 use Rattle.meaning.specs.Interval.{Interval, inside, shifts, shifted, moved}
 use Rattle.meaning.specs.Rule.{Node, fixed, signal, both, either, next, until, previous, since}
 use Rattle.meaning.specs.Rule.{nodeAt, Earlier, Ordered, count, firstOf, Entry}
-use Rattle.meaning.specs.Rewriting.{Neighbour, none, at, put, onlyIf, formOf, formsOf, parameterTo, rowTo}
-use Rattle.meaning.specs.Rewriting.{nextRow, untilLater, derivedRow, derivedRows}
-use Rattle.meaning.specs.Rewriting.{previousRow, sinceEarlier, pastRow, pastRows}
-use Rattle.meaning.proofs.Blocks.{one-low, block-low, block-new, firstOf-more, firstOf-mono}
+use Rattle.meaning.specs.Rewriting.{Neighbour, none, at, put, onlyIf, formsOf, parameterTo, rowTo, nextRow}
+use Rattle.meaning.specs.Rewriting.{untilLater, derivedRow, derivedRows, previousRow, sinceEarlier, pastRow}
+use Rattle.meaning.specs.Rewriting.{pastRows}
+use Rattle.meaning.proofs.Blocks.{block-low, block-new, firstOf-more, firstOf-mono}
 use Rattle.meaning.proofs.Blocks.{length-formsOf, length-derivedRows, length-pastRows}
 use Rattle.meaning.proofs.Intervals.{moved-cases}
 use Rattle.meaning.proofs.Looking.{Future, reach-past}
@@ -29,9 +29,7 @@ module _ (m : ℕ) (rule : List Node) where
   forms-whole k K l h b =
       le-ind (λ x. formIn m (formsOf m rule x) l ≡ formIn m (formsOf m rule k) l) refl
       (λ x g q.
-      one-low (formsOf m rule x) (formOf m (formsOf m rule x) (firstOf rule x) (nodeAt rule x)) x l (constant m false)
-      (length-formsOf m rule x) (omega arith)
-      ∙ q) K h
+      block-low (formsOf m rule x) _ x l (constant m false) (length-formsOf m rule x) (omega arith) ∙ q) K h
 
   pub derived-more : (past : List (Form m)) (e : Entry) (later : Neighbour) (k K q : ℕ) → k ≤ K → Below rule k q
       → formIn m (derivedRows m rule past e later K) q ≡ formIn m (derivedRows m rule past e later k) q

@@ -1,1 +1,1 @@
-// What a rule means over a log, how it is rewritten record by record, and the theorems between the two. It has no code.
+// What a rule means over a log, how it is rewritten record by record, and the theorems between. It has no code.

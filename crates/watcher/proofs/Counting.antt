@@ -10,13 +10,12 @@ use native.Mathlib.Numerals.{add-one}
 use native.Mathlib.Omega.{arith}
 use borrow.Author.Tests.{eq-eqb, ne-eqb}
 use lib.Dec.{eqb, ltb}
-use lib.ListN.{length}
-use Rattle.ground.proofs.Tabs.{length-tab, getD-tab}
 use Rattle.meaning.specs.Interval.{shifts}
-use Rattle.meaning.specs.Rule.{fixed, until, since, nodeAt, count, firstOf, parameters}
+use Rattle.meaning.specs.Rule.{until, since, count, firstOf, parameters}
 use Rattle.watcher.specs.Limits.{mostParameters}
 use Rattle.watcher.specs.Lists.{manyParameters}
 use Rattle.watcher.specs.Rules.{recordsOf, byteOf, intervalOf, nodeOf, nodeIn, ruleIn}
+use Rattle.watcher.proofs.Decoded.{length-ruleIn, node-in}
 
 -- shifts
 pub shifts-onward : (low high : ℕ) → high ≡ 255 → low + 1 ≡ shifts (intervalOf low high)
@@ -81,25 +80,17 @@ module _ (list : List ℕ) (k kind : ℕ) (is : kind ≡ byteOf list k 0) where
   unfolding nodeIn
   count-shifts low high r n o a b e = rw (← is, ← a, ← b) (e ∙ kind-shifts _ _ low high kind n o)
 
--- record k of the rule in the first n records
-pub nodeAt-rule : (list : List ℕ) (n k : ℕ) → k < n → nodeAt (ruleIn list n) k ≡ nodeIn list k
-unfolding nodeAt ruleIn
-nodeAt-rule list n k h = getD-tab n (nodeIn list) k (fixed true) h
-
+-- counted up to record k of the rule in the first n records
 pub firstOf-rule : (list : List ℕ) (n k : ℕ) → k < n
     → firstOf (ruleIn list n) (k + 1) ≡ firstOf (ruleIn list n) k + count (nodeIn list k)
 unfolding firstOf
-firstOf-rule list n k h = rw (add-one, nodeAt-rule list n k h)
-
-pub length-rule : (list : List ℕ) (n : ℕ) → length (ruleIn list n) ≡ n
-unfolding ruleIn
-length-rule list n = length-tab n (nodeIn list)
+firstOf-rule list n k h = rw (add-one, node-in list n k h)
 
 -- counted to the last record
 pub parameters-done : (list : List ℕ) (n k sum : ℕ) → sum ≡ firstOf (ruleIn list n) k → k ≤ n → n ≤ k
     → sum ≡ parameters (ruleIn list n)
 unfolding parameters
-parameters-done list n k sum e h l = e ∙ ap (firstOf (ruleIn list n)) (le-antisymm h l ∙ sym (length-rule list n))
+parameters-done list n k sum e h l = e ∙ ap (firstOf (ruleIn list n)) (le-antisymm h l ∙ sym (length-ruleIn list n))
 
 pub parameters-all : (list : List ℕ) (n p : ℕ) → n ≡ recordsOf list → p ≡ parameters (ruleIn list n)
     → ltb mostParameters p ≡ manyParameters list

@@ -1,2 +1,5 @@
+pub mod Decoded
+pub mod Examples
+pub mod Numbers
 pub mod Checking
 pub mod Counting

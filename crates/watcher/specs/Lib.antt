@@ -4,3 +4,4 @@ pub mod Rules
 pub mod Signals
 pub mod Records
 pub mod Lists
+pub mod Examples

@@ -1,4 +1,4 @@
--- The limits of document 01, each named once; they belong to the state's own type, whose constants `Watcher::limits` ties to them.
+-- The limits of document 01, each named once; `Watcher::limits` ties the constants of the state's type to them.
 use Prim.Native.Nat.{ℕ}
 use Rattle.watcher.specs.declared.state.Limits.{Limits}
 

@@ -5,7 +5,8 @@ use Prim.Native.Nat.{ℕ}
 use lib.Dec.{ltb}
 use Rattle.meaning.specs.Rule.{parameters}
 use Rattle.watcher.specs.declared.state.Refusal.{Refusal}
-use Rattle.watcher.specs.declared.state.Refusal.the-variants.{RuleLength, RuleRecord, RuleTwins, RuleParameters, SignalList, SignalMissing}
+use Rattle.watcher.specs.declared.state.Refusal.the-variants.{RuleLength, RuleRecord, RuleTwins, RuleParameters}
+use Rattle.watcher.specs.declared.state.Refusal.the-variants.{SignalList, SignalMissing}
 use Rattle.watcher.specs.declared.state.Found.{Found}
 use Rattle.watcher.specs.declared.state.Found.the-variants.{Fine, Refused}
 use Rattle.watcher.specs.Limits.{mostParameters}

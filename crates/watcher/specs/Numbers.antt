@@ -4,7 +4,9 @@ use mathlib.Core.Bool.{Bool, true, false}
 use Rattle.watcher.specs.declared.state.Verdict.{Verdict}
 use Rattle.watcher.specs.declared.state.Verdict.the-variants as verdict
 use Rattle.watcher.specs.declared.state.Refusal.{Refusal}
-use Rattle.watcher.specs.declared.state.Refusal.the-variants.{RuleLength, RuleRecord, RuleTwins, RuleParameters, SignalList, SignalMissing, AreaLength, LogRecord, LogTime, AlreadyClosed, NothingFed, BrokenState}
+use Rattle.watcher.specs.declared.state.Refusal.the-variants.{RuleLength, RuleRecord, RuleTwins, RuleParameters}
+use Rattle.watcher.specs.declared.state.Refusal.the-variants.{SignalList, SignalMissing}
+use Rattle.watcher.specs.declared.state.Refusal.the-variants.{AreaLength, LogRecord, LogTime, AlreadyClosed, NothingFed, BrokenState}
 
 -- the value that a verdict says the log has
 unfoldable pub verdictValue : Verdict → Bool

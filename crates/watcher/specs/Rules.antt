@@ -50,7 +50,7 @@ usedRight list k i =
     (cond (leb i 2) (ltb (byteOf list k i) (cond (eqb (byteOf list k 0) 3) mostSignals k))
     (fairLimits (byteOf list k 4) (byteOf list k 5)))
 
--- byte i of record k breaks the layout: byte 0 is no kind, a used byte is wrong, or one that the kind does not use is not zero
+-- byte i of record k breaks the layout: byte 0 is no kind, a used byte is wrong, or an unused one is not zero
 unfoldable pub byteBreaks : List ℕ → ℕ → ℕ → Bool
 byteBreaks list k i = not (cond (eqb i 0 || uses (byteOf list k 0) i) (usedRight list k i) (eqb (byteOf list k i) 0))
 

@@ -1,0 +1,34 @@
+-- The starred examples of document 01, all twelve: every row of the table passes.
+-- Assumes nothing.
+use mathlib.Core.Path.{_≡_, refl}
+use mathlib.Core.Bool.{true}
+use Rattle.ground.specs.Fold.{fold, someIn, everyIn, tab}
+use Rattle.ground.specs.Bits.{bit, ofBits}
+use Rattle.ground.specs.Bytes.{little}
+use Rattle.forms.specs.Form.{constant, parameter, xor, and, or, putIn, same}
+use Rattle.forms.specs.Rows.{whichConstant}
+use Rattle.meaning.specs.Interval.{distance, inside, shifts, shifted, moved}
+use Rattle.meaning.specs.Rule.{nodeAt, count, firstOf, parameters, entryAt, timeAt, holds}
+use Rattle.meaning.specs.Meaning.{nextAt, untilAt, sinceAt, meaning, values, valueOf}
+use Rattle.meaning.specs.Rewriting.{put, onlyIf, formOf, formsOf, parameterTo, rowTo, nextRow, untilLater, derivedRow}
+use Rattle.meaning.specs.Rewriting.{derivedRows, sinceEarlier, pastRow, pastRows}
+use Rattle.meaning.specs.Words.{start, first, feed, close, wordFor, word}
+use Rattle.watcher.specs.Numbers.{refusalNumber}
+use Rattle.watcher.specs.Rules.{byteOf, recordsOf, wrongLength, usedBytes, uses, fairLimits, usedRight}
+use Rattle.watcher.specs.Rules.{byteBreaks, recordBreaks, ruleBreaks, sameRecord, hasTwins, intervalOf, nodeOf}
+use Rattle.watcher.specs.Rules.{nodeIn, ruleIn}
+use Rattle.watcher.specs.Signals.{signalBreaks, wrongSignals, namesMissing, limitOf}
+use Rattle.watcher.specs.Records.{wrongRecord, timeOf, windOf, windMeets, meets, signalHolds}
+use Rattle.watcher.specs.Records.{signalWord, entryOf}
+use Rattle.watcher.specs.Lists.{firstRefusal, manyParameters, listTests, listsRefusal}
+use Rattle.watcher.specs.Examples.{allIn, table, passes}
+
+pub examples : allIn passes table ≡ true
+unfolding table passes fold someIn everyIn tab bit ofBits little constant parameter xor and or putIn same
+    whichConstant distance inside shifts shifted moved nodeAt count firstOf parameters entryAt timeAt holds nextAt
+    untilAt sinceAt meaning values valueOf put onlyIf formOf formsOf parameterTo rowTo nextRow untilLater derivedRow
+    derivedRows sinceEarlier pastRow pastRows start first feed close wordFor word refusalNumber byteOf recordsOf
+    wrongLength usedBytes uses fairLimits usedRight byteBreaks recordBreaks ruleBreaks sameRecord hasTwins intervalOf
+    nodeOf nodeIn ruleIn signalBreaks wrongSignals namesMissing limitOf wrongRecord timeOf windOf windMeets meets
+    signalHolds signalWord entryOf firstRefusal manyParameters listTests listsRefusal
+examples = refl

@@ -1,0 +1,49 @@
+-- Answers that have the same number, or the same value, are the same answer.
+-- Assumes nothing.
+use mathlib.Core.Path.{_≡_, refl, sym, ap, _∙_}
+use mathlib.Core.Bool.{cond}
+use mathlib.Core.List.{List, [], _∷_}
+use Prim.Native.Nat.{ℕ}
+use lib.ListN.{getD}
+use Rattle.watcher.specs.declared.state.Verdict.{Verdict}
+use Rattle.watcher.specs.declared.state.Verdict.the-variants.{Kept, Broken}
+use Rattle.watcher.specs.declared.state.Refusal.{Refusal}
+use Rattle.watcher.specs.declared.state.Refusal.the-variants.{RuleLength, RuleRecord, RuleTwins, RuleParameters}
+use Rattle.watcher.specs.declared.state.Refusal.the-variants.{SignalList, SignalMissing, AreaLength, LogRecord}
+use Rattle.watcher.specs.declared.state.Refusal.the-variants.{LogTime, AlreadyClosed, NothingFed, BrokenState}
+use Rattle.watcher.specs.Numbers.{verdictValue, refusalNumber}
+
+-- the refusals from number 1 on
+abbrev refusals : List Refusal
+refusals =
+    RuleLength ∷ RuleRecord ∷ RuleTwins ∷ RuleParameters ∷ SignalList ∷ SignalMissing ∷ AreaLength ∷ LogRecord
+    ∷ LogTime ∷ AlreadyClosed ∷ NothingFed ∷ BrokenState ∷ []
+
+abbrev numbered : ℕ → Refusal
+numbered n = getD (BrokenState ∷ refusals) n BrokenState
+
+back : (r : Refusal) → numbered (refusalNumber r) ≡ r
+unfolding refusalNumber
+back RuleLength = refl
+back RuleRecord = refl
+back RuleTwins = refl
+back RuleParameters = refl
+back SignalList = refl
+back SignalMissing = refl
+back AreaLength = refl
+back LogRecord = refl
+back LogTime = refl
+back AlreadyClosed = refl
+back NothingFed = refl
+back BrokenState = refl
+
+pub refusal-number-one : (a b : Refusal) → refusalNumber a ≡ refusalNumber b → a ≡ b
+refusal-number-one a b e = sym (back a) ∙ ap numbered e ∙ back b
+
+valued : (v : Verdict) → cond (verdictValue v) Kept Broken ≡ v
+unfolding verdictValue
+valued Kept = refl
+valued Broken = refl
+
+pub verdict-value-one : (a b : Verdict) → verdictValue a ≡ verdictValue b → a ≡ b
+verdict-value-one a b e = sym (valued a) ∙ ap (λ t. cond t Kept Broken) e ∙ valued b
