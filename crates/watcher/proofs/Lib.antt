@@ -1,7 +1,10 @@
-pub mod Decoded
-pub mod Examples
 pub mod Numbers
 pub mod Order
 pub mod RecordLaws
 pub mod Channels
 pub mod Speed
+pub mod Decoded
+pub mod Checking
+pub mod Counting
+pub mod Refusing
+pub mod Examples

@@ -1,4 +1,6 @@
 // The watcher: its state with its limits, and the checks of rule list, signal list and log record.
+mod lists;
 pub mod readings;
-pub mod signals;
+pub mod refusals;
+mod signals;
 pub mod state;

@@ -1,0 +1,114 @@
+-- What each way through the checks of a rule list finds.
+-- Assumes nothing.
+use mathlib.Core.Path.{_≡_, refl, ap, sym, _∙_}
+use mathlib.Core.Bool.{Bool, true, false, not}
+use mathlib.Core.List.{List, []}
+use Prim.Native.Nat.{ℕ, _%_, _≤_, _<_}
+use native.Mathlib.Omega.{arith}
+use borrow.Author.Tests.{leb-true, lt-leb, le-leb, eq-eqb, ne-eqb}
+use lib.Dec.{eqb, leb, ltb}
+use lib.ListN.{length, getD, List·getD-eq-default}
+use Rattle.ground.specs.Fold.{fold, some}
+use Rattle.ground.proofs.Folds.{every-at, some-at, some-none}
+use Rattle.watcher.specs.Limits.{mostRecords, mostSignals, recordBytes, listBytes}
+use Rattle.watcher.specs.Rules.{byteOf, recordsOf, wrongLength, usedBytes, uses, fairLimits, usedRight}
+use Rattle.watcher.specs.Rules.{byteBreaks, sameRecord, hasTwins}
+
+-- the table of used bytes is false past its ends
+pub uses-no-kind : (kind i : ℕ) → 10 ≤ kind → uses kind i ≡ false
+unfolding uses usedBytes
+uses-no-kind kind i h = ap (λ row. getD row i false) (List·getD-eq-default usedBytes [] h)
+
+pub uses-no-byte : (kind i : ℕ) → kind < 10 → recordBytes ≤ i → uses kind i ≡ false
+unfolding uses usedBytes fold
+uses-no-byte kind i h l =
+    let row : length (getD usedBytes kind []) ≤ recordBytes =
+    leb-true _ _ (every-at 10 (λ n. leb (length (getD usedBytes n [])) recordBytes) refl kind h) in
+    List·getD-eq-default (getD usedBytes kind []) false (omega arith)
+
+-- lengths
+module _ (list : List ℕ) where
+  pub length-none : length list % recordBytes ≡ 0 → length list ≡ 0 → true ≡ wrongLength list
+  unfolding wrongLength
+  length-none m e = rw (eq-eqb (length list % recordBytes) 0 m, eq-eqb (length list) 0 e)
+
+  pub length-some : length list % recordBytes ≡ 0 → (length list ≡ 0 → ⊥)
+      → ltb listBytes (length list) ≡ wrongLength list
+  unfolding wrongLength
+  length-some m n = rw (eq-eqb (length list % recordBytes) 0 m, ne-eqb (length list) 0 n)
+
+  pub length-odd : (length list % recordBytes ≡ 0 → ⊥) → true ≡ wrongLength list
+  unfolding wrongLength
+  length-odd n = rw (ne-eqb (length list % recordBytes) 0 n)
+
+-- limits
+pub fair-onward : (low high : ℕ) → high ≡ 255 → leb low 254 ≡ fairLimits low high
+unfolding fairLimits
+fair-onward low high e = rw (eq-eqb high 255 e)
+
+pub fair-between : (low high : ℕ) → (high ≡ 255 → ⊥) → leb low high ≡ fairLimits low high
+unfolding fairLimits
+fair-between low high n = rw (ne-eqb high 255 n)
+
+-- a used byte
+module _ (list : List ℕ) (k i kind : ℕ) (is : kind ≡ byteOf list k 0) where
+  pub right-kind : i ≡ 0 → 1 ≤ kind → leb kind 9 ≡ usedRight list k i
+  unfolding usedRight
+  right-kind e h = rw (eq-eqb i 0 e, ← is, le-leb 1 kind h)
+
+  pub right-none : i ≡ 0 → kind < 1 → false ≡ usedRight list k i
+  unfolding usedRight
+  right-none e h = rw (eq-eqb i 0 e, ← is, lt-leb 1 kind h)
+
+  pub right-signal : (named : ℕ) → (i ≡ 0 → ⊥) → i ≤ 2 → named ≡ byteOf list k i → kind ≡ 3
+      → ltb named mostSignals ≡ usedRight list k i
+  unfolding usedRight
+  right-signal named n h b e = rw (ne-eqb i 0 n, le-leb i 2 h, ← is, eq-eqb kind 3 e, b)
+
+  pub right-record : (named : ℕ) → (i ≡ 0 → ⊥) → i ≤ 2 → named ≡ byteOf list k i → (kind ≡ 3 → ⊥)
+      → ltb named k ≡ usedRight list k i
+  unfolding usedRight
+  right-record named n h b e = rw (ne-eqb i 0 n, le-leb i 2 h, ← is, ne-eqb kind 3 e, b)
+
+  pub right-limits : (low high : ℕ) (r : Bool) → (i ≡ 0 → ⊥) → 2 < i → low ≡ byteOf list k 4 → high ≡ byteOf list k 5
+      → r ≡ fairLimits low high → r ≡ usedRight list k i
+  unfolding usedRight
+  right-limits low high r n h a b e = rw (ne-eqb i 0 n, lt-leb i 2 h, ← a, ← b, e)
+
+-- a byte of a record
+module _ (list : List ℕ) (k i : ℕ) where
+  pub breaks-kind : (r : Bool) → i ≡ 0 → r ≡ usedRight list k i → not r ≡ byteBreaks list k i
+  unfolding byteBreaks
+  breaks-kind r e p = rw (eq-eqb i 0 e, p)
+
+  module _ (kind : ℕ) (is : kind ≡ byteOf list k 0) (used : Bool) (u : used ≡ uses kind i) (n : i ≡ 0 → ⊥) where
+    pub breaks-used : (r : Bool) → used ≡ true → r ≡ usedRight list k i → not r ≡ byteBreaks list k i
+    unfolding byteBreaks
+    breaks-used r t p = rw (ne-eqb i 0 n, ← is, ← u, t, p)
+
+    pub breaks-unused : (b : ℕ) → used ≡ false → b ≡ byteOf list k i → not (eqb b 0) ≡ byteBreaks list k i
+    unfolding byteBreaks
+    breaks-unused b t p = rw (ne-eqb i 0 n, ← is, ← u, t, p)
+
+-- a list that is not too long has at most sixteen records
+pub records-few : (list : List ℕ) (n : ℕ) → n ≡ recordsOf list → length list ≤ listBytes → n ≤ mostRecords
+unfolding recordsOf
+records-few list n e h = omega arith
+
+-- two bytes that differ
+pub bytes-differ : (a b x y : ℕ) → a ≡ x → b ≡ y → (a ≡ b → ⊥) → eqb x y ≡ false
+bytes-differ a b x y p q n = ne-eqb x y (λ e. n (p ∙ e ∙ sym q))
+
+-- twins
+module _ (list : List ℕ) (n : ℕ) (is : n ≡ recordsOf list) where
+  pub twins-found : (i j : ℕ) (r : Bool) → r ≡ sameRecord list i j → r ≡ true → j < i → i < n → true ≡ hasTwins list
+  unfolding hasTwins
+  twins-found i j r s t h l =
+      sym (some-at (recordsOf list) (λ a. some a (sameRecord list a)) i (omega arith)
+      (some-at i (sameRecord list i) j h (sym s ∙ t)))
+
+  pub twins-none : (i : ℕ) (found : Bool) → found ≡ false → ((a : ℕ) → a < i → some a (sameRecord list a) ≡ false)
+      → n ≤ i → found ≡ hasTwins list
+  unfolding hasTwins
+  twins-none i found e all h =
+      e ∙ sym (some-none (recordsOf list) (λ a. some a (sameRecord list a)) (λ a l. all a (omega arith)))

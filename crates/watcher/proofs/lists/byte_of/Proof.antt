@@ -1,0 +1,22 @@
+-- `lists::byte_of` meets its contract: the byte at its place, zero past the end.
+-- Assumes nothing.
+use borrow.Author.Needs.{needs}
+use Rattle.watcher.specs.Rules.{byteOf}
+use Rattle.watcher.proofs.lists.byte_of.Statement.{statement}
+use Rattle.watcher.proofs.lists.byte_of.Tie as tie
+
+mul-byte : tie.Need-mul-byte
+mul-byte c = search needs
+
+add-byte : tie.Need-add-byte
+add-byte c = search needs
+
+byte-requires : tie.Need-byte-requires
+byte-requires c κs = search needs
+
+returns : tie.Need-returns
+unfolding byteOf
+returns c = search needs
+
+pub byte-of-spec : {M : Type 1} → statement M
+byte-of-spec = tie.close (tie.spec mul-byte add-byte byte-requires returns)

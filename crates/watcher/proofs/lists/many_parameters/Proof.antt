@@ -1,0 +1,19 @@
+-- `lists::many_parameters` meets its contract: the rule has as many records as the list.
+-- Assumes nothing.
+use borrow.Author.Needs.{needs}
+use Rattle.watcher.proofs.Counting.{parameters-all}
+use Rattle.watcher.proofs.Checking.{records-few}
+use Rattle.watcher.proofs.lists.many_parameters.Statement.{statement}
+use Rattle.watcher.proofs.lists.many_parameters.Tie as tie
+
+records-of-requires : tie.Need-records-of-requires
+records-of-requires c κs = search needs
+
+parameters-in-requires : tie.Need-parameters-in-requires
+parameters-in-requires c κs = records-few _ _ (c .records-of .ensures) (c .before .before .pre)
+
+returns : tie.Need-returns
+returns c = parameters-all _ _ _ (c .before .records-of .ensures) (c .parameters-in .ensures)
+
+pub many-parameters-spec : {M : Type 1} → statement M
+many-parameters-spec = tie.close (tie.spec records-of-requires parameters-in-requires returns)

@@ -1,0 +1,58 @@
+-- `lists::parameters_in` meets its contract: the sum is where the parameters of record `k` begin.
+-- Assumes nothing.
+use mathlib.Core.Path.{_≡_}
+use Prim.Native.Nat.{_-_, _*_, _≤_}
+use native.Mathlib.Omega.{arith}
+use borrow.Author.Needs.{needs}
+use Rattle.meaning.specs.Rule.{firstOf}
+use Rattle.watcher.specs.Rules.{ruleIn}
+use Rattle.watcher.proofs.Counting.{firstOf-rule, parameters-done}
+use Rattle.watcher.proofs.lists.parameters_in.Statement.{statement}
+use Rattle.watcher.proofs.lists.parameters_in.Tie as tie
+
+abbrev Inv-loop : tie.InvT-loop
+Inv-loop list n sum₀ k₀ sum k = (k ≤ n) × (sum ≡ firstOf (ruleIn list n) k) × (sum ≤ 256 * k)
+
+abbrev μ-loop : tie.MeasureT-loop
+μ-loop list n sum₀ k₀ sum k = n - k
+
+loop-holds : tie.Need-loop-holds Inv-loop μ-loop
+unfolding firstOf
+loop-holds c = (search needs, search needs, search needs)
+
+count-at-requires : tie.Need-count-at-requires Inv-loop μ-loop
+count-at-requires c κs = search needs
+
+add-sum : tie.Need-add-sum Inv-loop μ-loop
+add-sum c = search needs
+
+add-k : tie.Need-add-k Inv-loop μ-loop
+add-k c = search needs
+
+loop-less : tie.Need-loop-less Inv-loop μ-loop
+loop-less c = search needs
+
+loop-again : tie.Need-loop-again Inv-loop μ-loop
+loop-again c =
+    let start = c .before .before .before .before .args in
+    let here = c .before .before .loop .k in
+    let more = firstOf-rule (start .list .now) (start .n) here (c .before .loop-test .taken) in
+    (search needs, omega arith, search needs)
+
+returns : tie.Need-returns Inv-loop μ-loop
+returns c =
+    let p = c .before .loop .inv in parameters-done _ _ _ _ (p .1) (p .0) (c .loop-test .left)
+
+pub parameters-in-spec : {M : Type 1} → statement M
+parameters-in-spec =
+    tie.close
+    (tie.spec
+    Inv-loop
+    μ-loop
+    loop-holds
+    count-at-requires
+    add-sum
+    add-k
+    loop-less
+    loop-again
+    returns)

@@ -1,0 +1,220 @@
+// The checks of a rule list, and how many parameters its rule has.
+ghost use mathlib.Core.Path.{_≡_};
+ghost use Prim.Native.Nat.{_<_, _≤_};
+ghost use lib.ListN.{length};
+ghost use Rattle.meaning.specs.Interval.{shifts};
+ghost use Rattle.meaning.specs.Rule.{count, parameters};
+ghost use Rattle.watcher.specs.Limits.{mostRecords, recordBytes, listBytes};
+ghost use Rattle.watcher.specs.Rules.{byteOf, recordsOf, wrongLength, uses, fairLimits, usedRight, byteBreaks};
+ghost use Rattle.watcher.specs.Rules.{recordBreaks, ruleBreaks, sameRecord, hasTwins};
+ghost use Rattle.watcher.specs.Rules.{intervalOf, nodeIn, ruleIn};
+ghost use Rattle.watcher.specs.Lists.{manyParameters};
+use crate::state::Watcher;
+use ground::bytes;
+
+// Kinds 0, which is none, to 9.
+const KINDS: usize = 10;
+
+// For each kind, which of the eight bytes are used: kind, left, right, zero, low, high, zero, zero.
+const USED: [[bool; Watcher::RECORD_BYTES]; KINDS] = [
+    [false, false, false, false, false, false, false, false],
+    [true, false, false, false, false, false, false, false],
+    [true, false, false, false, false, false, false, false],
+    [true, true, false, false, false, false, false, false],
+    [true, true, true, false, false, false, false, false],
+    [true, true, true, false, false, false, false, false],
+    [true, true, false, false, true, true, false, false],
+    [true, true, true, false, true, true, false, false],
+    [true, true, false, false, true, true, false, false],
+    [true, true, true, false, true, true, false, false],
+];
+
+// Whether a kind uses byte `i`.
+pub(crate) fn uses(kind: usize, i: usize) -> bool
+    ensures { λ r. ⌜ r ≡ uses kind i ⌝ }
+{
+    if kind < KINDS {
+        if i < Watcher::RECORD_BYTES {
+            USED[kind][i]
+        } else {
+            false
+        }
+    } else {
+        false
+    }
+}
+
+// Byte `i` of record `k`.
+pub(crate) fn byte_of(list: &[u8], k: usize, i: usize) -> u8
+    requires { ⌜ (k < mostRecords) × (i < recordBytes) ⌝ }
+    ensures { λ r. ⌜ r ≡ byteOf (now (list .entry)) k i ⌝ }
+{
+    bytes::byte(list, Watcher::RECORD_BYTES * k + i)
+}
+
+// How many records a list has.
+pub(crate) fn records_of(list: &[u8]) -> usize
+    ensures { λ r. ⌜ r ≡ recordsOf (now (list .entry)) ⌝ }
+{
+    list.len() / Watcher::RECORD_BYTES
+}
+
+// Whether the length is not that of 1 to 16 whole records.
+pub(crate) fn wrong_length(list: &[u8]) -> bool
+    ensures { λ r. ⌜ r ≡ wrongLength (now (list .entry)) ⌝ }
+{
+    if list.len() % Watcher::RECORD_BYTES == 0 {
+        if list.len() == 0 {
+            true
+        } else {
+            Watcher::LIST_BYTES < list.len()
+        }
+    } else {
+        true
+    }
+}
+
+// Whether `low` is at most `high`, or at most 254 where `high` is 255, no upper end.
+pub(crate) fn fair_limits(low: u8, high: u8) -> bool
+    ensures { λ r. ⌜ r ≡ fairLimits low high ⌝ }
+{
+    if high == 255 { low <= 254 } else { low <= high }
+}
+
+// Whether byte `i` of record `k` is what its kind wants there.
+pub(crate) fn used_right(list: &[u8], k: usize, i: usize) -> bool
+    requires { ⌜ (k < mostRecords) × (i < recordBytes) ⌝ }
+    ensures { λ r. ⌜ r ≡ usedRight (now (list .entry)) k i ⌝ }
+{
+    let kind = byte_of(list, k, 0);
+    if i == 0 {
+        if 1 <= kind { kind <= 9 } else { false }
+    } else if i <= 2 {
+        let named = byte_of(list, k, i) as usize;
+        if kind == 3 {
+            named < Watcher::SIGNALS
+        } else {
+            named < k
+        }
+    } else {
+        fair_limits(byte_of(list, k, 4), byte_of(list, k, 5))
+    }
+}
+
+// Whether byte `i` of record `k` breaks the layout.
+pub(crate) fn byte_breaks(list: &[u8], k: usize, i: usize) -> bool
+    requires { ⌜ (k < mostRecords) × (i < recordBytes) ⌝ }
+    ensures { λ r. ⌜ r ≡ byteBreaks (now (list .entry)) k i ⌝ }
+{
+    let kind = byte_of(list, k, 0) as usize;
+    if i == 0 {
+        !used_right(list, k, i)
+    } else if uses(kind, i) {
+        !used_right(list, k, i)
+    } else {
+        byte_of(list, k, i) != 0
+    }
+}
+
+// Whether record `k` breaks the layout.
+pub(crate) fn record_breaks(list: &[u8], k: usize) -> bool
+    requires { ⌜ k < mostRecords ⌝ }
+    ensures { λ r. ⌜ r ≡ recordBreaks (now (list .entry)) k ⌝ }
+{
+    for i in 0..Watcher::RECORD_BYTES {
+        if byte_breaks(list, k, i) {
+            return true;
+        }
+    }
+    false
+}
+
+// Whether some record breaks the layout.
+pub(crate) fn rule_breaks(list: &[u8]) -> bool
+    requires { ⌜ length (now list) ≤ listBytes ⌝ }
+    ensures { λ r. ⌜ r ≡ ruleBreaks (now (list .entry)) ⌝ }
+{
+    let records = records_of(list);
+    for k in 0..records {
+        if record_breaks(list, k) {
+            return true;
+        }
+    }
+    false
+}
+
+// Whether records `i` and `j` have the same eight bytes.
+pub(crate) fn same_record(list: &[u8], i: usize, j: usize) -> bool
+    requires { ⌜ (i < mostRecords) × (j < mostRecords) ⌝ }
+    ensures { λ r. ⌜ r ≡ sameRecord (now (list .entry)) i j ⌝ }
+{
+    for b in 0..Watcher::RECORD_BYTES {
+        if byte_of(list, i, b) != byte_of(list, j, b) {
+            return false;
+        }
+    }
+    true
+}
+
+// Whether some record has an earlier twin: the first equal pair ends the search.
+pub(crate) fn has_twins(list: &[u8]) -> bool
+    requires { ⌜ length (now list) ≤ listBytes ⌝ }
+    ensures { λ r. ⌜ r ≡ hasTwins (now (list .entry)) ⌝ }
+{
+    let records = records_of(list);
+    let mut found = false;
+    'pairs: for i in 0..records {
+        for j in 0..i {
+            if same_record(list, i, j) {
+                found = true;
+                break 'pairs;
+            }
+        }
+    }
+    found
+}
+
+// How many shifts an interval has: 0 to `high`, or to `low` with no upper end.
+pub(crate) fn shifts_of(low: u8, high: u8) -> usize
+    ensures { λ r. ⌜ (r ≡ shifts (intervalOf low high)) × (r ≤ 256) ⌝ }
+{
+    if high == 255 {
+        low as usize + 1
+    } else {
+        high as usize + 1
+    }
+}
+
+// How many parameters record `k` has.
+pub(crate) fn count_at(list: &[u8], k: usize) -> usize
+    requires { ⌜ k < mostRecords ⌝ }
+    ensures { λ r. ⌜ (r ≡ count (nodeIn (now (list .entry)) k)) × (r ≤ 256) ⌝ }
+{
+    let kind = byte_of(list, k, 0);
+    match kind {
+        1 | 2 | 4 | 5 => 0,
+        3 | 6 | 8 => 1,
+        _ => shifts_of(byte_of(list, k, 4), byte_of(list, k, 5)),
+    }
+}
+
+// How many parameters the first `n` records have.
+pub(crate) fn parameters_in(list: &[u8], n: usize) -> usize
+    requires { ⌜ n ≤ mostRecords ⌝ }
+    ensures { λ r. ⌜ r ≡ parameters (ruleIn (now (list .entry)) n) ⌝ }
+{
+    let mut sum = 0;
+    for k in 0..n {
+        sum += count_at(list, k);
+    }
+    sum
+}
+
+// Whether the rule has more parameters than it may.
+pub(crate) fn many_parameters(list: &[u8]) -> bool
+    requires { ⌜ length (now list) ≤ listBytes ⌝ }
+    ensures { λ r. ⌜ r ≡ manyParameters (now (list .entry)) ⌝ }
+{
+    let records = records_of(list);
+    Watcher::PARAMETERS < parameters_in(list, records)
+}
