@@ -6,7 +6,8 @@ use Rattle.watcher.specs.declared.state.Verdict.the-variants as verdict
 use Rattle.watcher.specs.declared.state.Refusal.{Refusal}
 use Rattle.watcher.specs.declared.state.Refusal.the-variants.{RuleLength, RuleRecord, RuleTwins, RuleParameters}
 use Rattle.watcher.specs.declared.state.Refusal.the-variants.{SignalList, SignalMissing}
-use Rattle.watcher.specs.declared.state.Refusal.the-variants.{AreaLength, LogRecord, LogTime, AlreadyClosed, NothingFed, BrokenState}
+use Rattle.watcher.specs.declared.state.Refusal.the-variants.{AreaLength, LogRecord, LogTime}
+use Rattle.watcher.specs.declared.state.Refusal.the-variants.{AlreadyClosed, NothingFed, BrokenState}
 
 -- the value that a verdict says the log has
 unfoldable pub verdictValue : Verdict → Bool
