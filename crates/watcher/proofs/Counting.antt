@@ -13,7 +13,7 @@ use lib.Dec.{eqb, ltb}
 use Rattle.meaning.specs.Interval.{shifts}
 use Rattle.meaning.specs.Rule.{until, since, count, firstOf, parameters}
 use Rattle.watcher.specs.Limits.{mostParameters}
-use Rattle.watcher.specs.Lists.{manyParameters}
+use Rattle.watcher.specs.Rules.{manyParameters}
 use Rattle.watcher.specs.Rules.{recordsOf, byteOf, intervalOf, nodeOf, nodeIn, ruleIn}
 use Rattle.watcher.proofs.Decoded.{length-ruleIn, node-in}
 

@@ -20,7 +20,8 @@ use Rattle.watcher.specs.declared.state.Found.the-variants.{Fine, Refuse
 use Rattle.watcher.specs.Rules.{byteOf, recordsOf, wrongLength, usedBytes, uses, fairLimits, usedRight}
 use Rattle.watcher.specs.Rules.{byteBreaks, recordBreaks, ruleBreaks, hasTwins, nodeOf, nodeIn, ruleIn}
 use Rattle.watcher.specs.Signals.{wrongSignals, namesMissing}
-use Rattle.watcher.specs.Lists.{firstRefusal, manyParameters, listTests, listsRefusal}
+use Rattle.watcher.specs.Lists.{firstRefusal, listTests, listsRefusal}
+use Rattle.watcher.specs.Rules.{manyParameters}
 
 -- each test of the lists fails
 pub record Accepted (rule signals : List ℕ) : Type 0 where

@@ -20,7 +20,8 @@ use Rattle.watcher.specs.Rules.{nodeIn, ruleIn}
 use Rattle.watcher.specs.Signals.{signalBreaks, wrongSignals, namesMissing, limitOf}
 use Rattle.watcher.specs.Records.{wrongRecord, timeOf, windOf, windMeets, meets, signalHolds}
 use Rattle.watcher.specs.Records.{signalWord, entryOf}
-use Rattle.watcher.specs.Lists.{firstRefusal, manyParameters, listTests, listsRefusal}
+use Rattle.watcher.specs.Lists.{firstRefusal, listTests, listsRefusal}
+use Rattle.watcher.specs.Rules.{manyParameters}
 use Rattle.watcher.specs.Examples.{allIn, table, passes}
 
 pub examples : allIn passes table ≡ true

@@ -13,7 +13,8 @@ use Rattle.watcher.specs.declared.state.Found.the-variants.{Fine, Refuse
 use Rattle.watcher.specs.Limits.{listBytes}
 use Rattle.watcher.specs.Rules.{recordsOf, wrongLength, ruleBreaks, hasTwins}
 use Rattle.watcher.specs.Signals.{signalBreaks, wrongSignals, namesMissing}
-use Rattle.watcher.specs.Lists.{firstRefusal, manyParameters, listTests, listsRefusal}
+use Rattle.watcher.specs.Lists.{firstRefusal, listTests, listsRefusal}
+use Rattle.watcher.specs.Rules.{manyParameters}
 use Rattle.watcher.proofs.Decoded.{length-fine}
 
 -- a list of the right length is no longer than a list may be

@@ -2,15 +2,12 @@
 use mathlib.Core.Bool.{Bool, cond}
 use mathlib.Core.List.{List, [], _∷_}
 use Prim.Native.Nat.{ℕ}
-use lib.Dec.{ltb}
-use Rattle.meaning.specs.Rule.{parameters}
 use Rattle.watcher.specs.declared.state.Refusal.{Refusal}
 use Rattle.watcher.specs.declared.state.Refusal.the-variants.{RuleLength, RuleRecord, RuleTwins, RuleParameters}
 use Rattle.watcher.specs.declared.state.Refusal.the-variants.{SignalList, SignalMissing}
 use Rattle.watcher.specs.declared.state.Found.{Found}
 use Rattle.watcher.specs.declared.state.Found.the-variants.{Fine, Refused}
-use Rattle.watcher.specs.Limits.{mostParameters}
-use Rattle.watcher.specs.Rules.{recordsOf, wrongLength, ruleBreaks, hasTwins, ruleIn}
+use Rattle.watcher.specs.Rules.{recordsOf, wrongLength, ruleBreaks, hasTwins, manyParameters}
 use Rattle.watcher.specs.Signals.{wrongSignals, namesMissing}
 
 -- a test, and the refusal that is given where it holds
@@ -22,10 +19,6 @@ pub record Test : Type 0 where
 unfoldable pub firstRefusal : List Test → Found
 firstRefusal [] = Fine
 firstRefusal (t ∷ ts) = cond (t .holds) (Refused (t .gives)) (firstRefusal ts)
-
--- more parameters than a rule may have, counted over all its records
-unfoldable pub manyParameters : List ℕ → Bool
-manyParameters rule = ltb mostParameters (parameters (ruleIn rule (recordsOf rule)))
 
 -- refusals 1 to 6, in that order
 unfoldable pub listTests : (rule signals : List ℕ) → List Test

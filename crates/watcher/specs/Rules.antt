@@ -6,8 +6,8 @@ use lib.Dec.{eqb, leb, ltb}
 use lib.ListN.{length, getD}
 use Rattle.ground.specs.Fold.{every, some, tab}
 use Rattle.meaning.specs.Interval.{Interval, between, onward}
-use Rattle.meaning.specs.Rule.{Node, fixed, signal, both, either, next, until, previous, since}
-use Rattle.watcher.specs.Limits.{mostRecords, mostSignals, recordBytes, listBytes}
+use Rattle.meaning.specs.Rule.{Node, fixed, signal, both, either, next, until, previous, since, parameters}
+use Rattle.watcher.specs.Limits.{mostSignals, mostParameters, recordBytes, listBytes}
 
 -- byte i of record k of a list
 unfoldable pub byteOf : List ℕ → ℕ → ℕ → ℕ
@@ -91,3 +91,7 @@ nodeIn list k = nodeOf (byteOf list k 0) (byteOf list k 1) (byteOf list k 2) (by
 -- the rule in the first n records of a list
 unfoldable pub ruleIn : List ℕ → ℕ → List Node
 ruleIn list n = tab n (nodeIn list)
+
+-- more parameters than a rule may have, counted over all its records
+unfoldable pub manyParameters : List ℕ → Bool
+manyParameters rule = ltb mostParameters (parameters (ruleIn rule (recordsOf rule)))

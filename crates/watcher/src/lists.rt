@@ -8,7 +8,7 @@ ghost use Rattle.watcher.specs.Limits.{mostRecords, recordBytes, listByt
 ghost use Rattle.watcher.specs.Rules.{byteOf, recordsOf, wrongLength, uses, fairLimits, usedRight, byteBreaks};
 ghost use Rattle.watcher.specs.Rules.{recordBreaks, ruleBreaks, sameRecord, hasTwins};
 ghost use Rattle.watcher.specs.Rules.{intervalOf, nodeIn, ruleIn};
-ghost use Rattle.watcher.specs.Lists.{manyParameters};
+ghost use Rattle.watcher.specs.Rules.{manyParameters};
 use crate::state::Watcher;
 use ground::bytes;
 
