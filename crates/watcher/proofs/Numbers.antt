@@ -11,7 +11,12 @@ use Rattle.watcher.specs.declared.state.Refusal.{Refusal}
 use Rattle.watcher.specs.declared.state.Refusal.the-variants.{RuleLength, RuleRecord, RuleTwins, RuleParameters}
 use Rattle.watcher.specs.declared.state.Refusal.the-variants.{SignalList, SignalMissing, AreaLength, LogRecord}
 use Rattle.watcher.specs.declared.state.Refusal.the-variants.{LogTime, AlreadyClosed, NothingFed, BrokenState}
-use Rattle.watcher.specs.Numbers.{verdictValue, refusalNumber}
+use Rattle.meaning.specs.Words as words
+use Rattle.watcher.specs.declared.state.Word.{Word}
+use Rattle.watcher.specs.declared.state.Word.the-variants as word
+use Rattle.watcher.specs.declared.state.Phase.{Phase}
+use Rattle.watcher.specs.declared.state.Phase.the-variants as phase
+use Rattle.watcher.specs.Numbers.{wordOf, verdictValue, Stage, fresh, running, closed, stageOf, refusalNumber}
 
 -- the refusals from number 1 on
 abbrev refusals : List Refusal
@@ -47,3 +52,32 @@ valued Broken = refl
 
 pub verdict-value-one : (a b : Verdict) → verdictValue a ≡ verdictValue b → a ≡ b
 verdict-value-one a b e = sym (valued a) ∙ ap (λ t. cond t Kept Broken) e ∙ valued b
+
+-- the answer that a word of the meaning, or a stage of the log, is
+abbrev worded : words.Word → Word
+worded words.kept = word.Kept
+worded words.broken = word.Broken
+worded words.pending = word.Pending
+
+spoken : (w : Word) → worded (wordOf w) ≡ w
+unfolding wordOf
+spoken word.Kept = refl
+spoken word.Broken = refl
+spoken word.Pending = refl
+
+pub word-one : (a b : Word) → wordOf a ≡ wordOf b → a ≡ b
+word-one a b e = sym (spoken a) ∙ ap worded e ∙ spoken b
+
+abbrev staged : Stage → Phase
+staged fresh = phase.Fresh
+staged (running e) = phase.Running (e .time) (e .signals)
+staged (closed t) = phase.Closed (cond t Kept Broken)
+
+seen : (p : Phase) → staged (stageOf p) ≡ p
+unfolding stageOf
+seen phase.Fresh = refl
+seen (phase.Running time signals) = refl
+seen (phase.Closed v) = ap phase.Closed (valued v)
+
+pub stage-one : (a b : Phase) → stageOf a ≡ stageOf b → a ≡ b
+stage-one a b e = sym (seen a) ∙ ap staged e ∙ seen b

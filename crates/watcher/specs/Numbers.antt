@@ -1,6 +1,12 @@
 -- Document 01's number or value for each case of an answer.
 use Prim.Native.Nat.{ℕ}
 use mathlib.Core.Bool.{Bool, true, false}
+use Rattle.meaning.specs.Rule.{Entry}
+use Rattle.meaning.specs.Words as words
+use Rattle.watcher.specs.declared.state.Word.{Word}
+use Rattle.watcher.specs.declared.state.Word.the-variants as word
+use Rattle.watcher.specs.declared.state.Phase.{Phase}
+use Rattle.watcher.specs.declared.state.Phase.the-variants as phase
 use Rattle.watcher.specs.declared.state.Verdict.{Verdict}
 use Rattle.watcher.specs.declared.state.Verdict.the-variants as verdict
 use Rattle.watcher.specs.declared.state.Refusal.{Refusal}
@@ -9,10 +15,27 @@ use Rattle.watcher.specs.declared.state.Refusal.the-variants.{SignalList
 use Rattle.watcher.specs.declared.state.Refusal.the-variants.{AreaLength, LogRecord, LogTime}
 use Rattle.watcher.specs.declared.state.Refusal.the-variants.{AlreadyClosed, NothingFed, BrokenState}
 
+-- the word of the meaning
+unfoldable pub wordOf : Word → words.Word
+wordOf word.Kept = words.kept
+wordOf word.Broken = words.broken
+wordOf word.Pending = words.pending
+
 -- the value that a verdict says the log has
 unfoldable pub verdictValue : Verdict → Bool
 verdictValue verdict.Kept = true
 verdictValue verdict.Broken = false
+
+-- what a phase says of the log: nothing fed, its last record, or its value at the end
+pub data Stage : Type 0 where
+  fresh : Stage
+  running : Entry → Stage
+  closed : Bool → Stage
+
+unfoldable pub stageOf : Phase → Stage
+stageOf phase.Fresh = fresh
+stageOf (phase.Running time signals) = running (record { time = time; signals = signals })
+stageOf (phase.Closed v) = closed (verdictValue v)
 
 -- the refusal numbers
 unfoldable pub refusalNumber : Refusal → ℕ

@@ -2,6 +2,13 @@
 ghost use mathlib.Core.Path.{_≡_};
 ghost use Rattle.watcher.specs.Limits.{limitsOf};
 
+// The word after a record.
+pub enum Word {
+    Kept,
+    Broken,
+    Pending,
+}
+
 // How a closed log ended.
 pub enum Verdict {
     Kept,
