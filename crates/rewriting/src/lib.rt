@@ -1,0 +1,3 @@
+// One record's rewriting on a lent area: a row by kind, and the loops over a rule's records.
+mod interval;
+mod parts;
