@@ -40,6 +40,7 @@ inside-same low high n t = go (eqb high 255) (leb low n) refl
     reached : (b : Bool) → leb low n ≡ b → leb (low - n) 0 ≡ b
     reached true e = let h : low ≤ n = leb-true low n e in le-leb (low - n) 0 (omega arith)
     reached false e = let h : n < low = leb-false low n e in lt-leb (low - n) 0 (omega arith)
+
     go : (b c : Bool) → leb low n ≡ c → leb low n ≡ inside (shifted (cond b (onward low) (between low high)) n) t t
     go true c e = rw (distance-same t, reached c e, e)
     go false true e = rw (distance-same t, reached true e, e, le-leb 0 (high - n) (omega arith))

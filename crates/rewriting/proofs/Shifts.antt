@@ -1,7 +1,7 @@
--- A row past its list, and a moved shift as the code has it.
+-- A row past its list, a row under a test, and a moved shift as the code has it.
 -- Assumes nothing.
 use mathlib.Core.Path.{_≡_, subst, sym, ap, _∙_}
-use mathlib.Core.Bool.{false}
+use mathlib.Core.Bool.{Bool, true, false}
 use mathlib.Core.List.{List}
 use Prim.Native.Nat.{ℕ, _+_, _≤_, _<_}
 use native.Mathlib.Omega.{arith}
@@ -9,7 +9,7 @@ use lib.ListN.{length, List·getD-eq-default}
 use Rattle.forms.specs.Form.{Form, constant, parameter}
 use Rattle.forms.specs.Words.{pack}
 use Rattle.forms.specs.Area.{formIn}
-use Rattle.meaning.specs.Rewriting.{parameterTo, rowTo}
+use Rattle.meaning.specs.Rewriting.{onlyIf, parameterTo, rowTo}
 use Rattle.rewriting.specs.declared.interval.Shift.{Shift}
 use Rattle.rewriting.specs.declared.interval.Shift.the-variants.{Gone, To}
 use Rattle.rewriting.specs.Steps.{movedOf, Near}
@@ -17,6 +17,15 @@ use Rattle.rewriting.specs.Steps.{movedOf, Near}
 pub past-row : (m count j : ℕ) (rows : List (Form m)) → length rows ≡ count → count ≤ j
     → constant m false ≡ formIn m rows j
 past-row m count j rows e h = sym (List·getD-eq-default rows (constant m false) (omega (arith, e)))
+
+module _ (m : ℕ) (b : Bool) (f : Form m) (r : List ℕ) where
+  pub only-taken : b ≡ true → r ≡ pack m f → r ≡ pack m (onlyIf m b f)
+  unfolding onlyIf
+  only-taken e h = h ∙ ap (λ b′. pack m (onlyIf m b′ f)) (sym e)
+
+  pub only-left : b ≡ false → r ≡ pack m (constant m false) → r ≡ pack m (onlyIf m b f)
+  unfolding onlyIf
+  only-left e h = h ∙ ap (λ b′. pack m (onlyIf m b′ f)) (sym e)
 
 pub near-to : (s : Shift) (n : ℕ) → s ≡ To n → Near s → n < 256
 unfolding Near

@@ -3,11 +3,18 @@ use mathlib.Core.Path.{_≡_}
 use mathlib.Core.Bool.{Bool}
 use mathlib.Core.List.{List}
 use Prim.Native.Nat.{ℕ, _≤_, _<_}
-use Rattle.forms.specs.Form.{Form}
+use Rattle.forms.specs.Form.{Form, or}
 use Rattle.forms.specs.Words.{pack}
 use Rattle.forms.specs.Area.{formIn, Holds}
 use Rattle.meaning.specs.Interval as interval
-use Rattle.meaning.specs.Rewriting.{put, onlyIf, rowTo}
+use Rattle.meaning.specs.Rule.{Node}
+use Rattle.meaning.specs.Rewriting.{put, onlyIf, rowTo, nextRow, untilLater}
+use Rattle.meaning.specs.Rewriting as rewriting
+use Rattle.rewriting.specs.Decode.{intervalOf, nodeOf}
+use Rattle.rewriting.specs.declared.step.Record.{Record}
+use Rattle.rewriting.specs.declared.step.Step.{Step}
+use Rattle.rewriting.specs.declared.step.Neighbour.{Neighbour}
+use Rattle.rewriting.specs.declared.step.Neighbour.the-variants.{None, At}
 use Rattle.rewriting.specs.declared.interval.Shift.{Shift}
 use Rattle.rewriting.specs.declared.interval.Shift.the-variants.{Gone, To}
 
@@ -26,6 +33,10 @@ abbrev pub OfRow : List ℕ → ℕ → ℕ → ℕ → List ℕ → Type 0
 OfRow ws base count j r =
     (m : ℕ) (rows : List (Form m)) → Holds m ws base count rows → r ≡ pack m (formIn m rows j)
 
+abbrev pub OnlyRow : Bool → List ℕ → ℕ → ℕ → List ℕ → Type 0
+OnlyRow test ws count j r =
+    (m : ℕ) (rows : List (Form m)) → Holds m ws 0 count rows → r ≡ pack m (onlyIf m test (formIn m rows j))
+
 -- the answer is the row of the moved shift
 abbrev pub OfMoved : List ℕ → ℕ → ℕ → ℕ → interval.Moved → List ℕ → Type 0
 OfMoved ws base count first s r =
@@ -36,3 +47,51 @@ abbrev pub OnlyWithRows : Bool → List ℕ → List ℕ → ℕ → ℕ → Lis
 OnlyWithRows test row ws base count r =
     (m : ℕ) (f : Form m) (rows : List (Form m)) → m ≤ 12 → row ≡ pack m f → Holds m ws base count rows
     → r ≡ pack m (onlyIf m test (put m f rows))
+
+-- the neighbour, the interval and the record of the rule that a step has
+unfoldable pub neighbourOf : Neighbour → rewriting.Neighbour
+neighbourOf None = rewriting.none
+neighbourOf (At time) = rewriting.at time
+
+unfoldable pub intervalIn : Step → interval.Interval
+intervalIn step = intervalOf (step .record .low) (step .record .high)
+
+unfoldable pub nodeFor : Record → Node
+nodeFor d = nodeOf (d .kind) (d .left) (d .right) (d .low) (d .high)
+
+-- what a step's numbers keep to
+pub record Fair (step : Step) : Type 0 where
+  pub few : step .m ≤ 12
+  pub within : step .first ≤ 12
+  pub byte : step .shift < 256
+
+-- the answer is next's derived row
+abbrev pub OfNext : Step → List ℕ → ℕ → List ℕ → Type 0
+OfNext step ws k r =
+    (m : ℕ) (forms : List (Form m)) → Holds m ws 0 k forms
+    → r ≡ pack m (nextRow m forms (step .record .left) (intervalIn step) (step .here) (neighbourOf (step .neighbour)))
+
+-- until's second part derived, with left's row
+unfoldable pub laterOf : (step : Step) → (forms derived : List (Form (step .m))) → Form (step .m)
+laterOf step forms derived =
+    untilLater (step .m) forms derived (step .first) (step .record .left) (intervalIn step) (step .shift) (step .here)
+    (neighbourOf (step .neighbour))
+
+abbrev pub OfLater : Step → List ℕ → List ℕ → ℕ → List ℕ → Type 0
+OfLater step left ws scratch r =
+    (forms derived : List (Form (step .m))) → left ≡ pack (step .m) (formIn (step .m) forms (step .record .left))
+    → Holds (step .m) ws scratch (step .first) derived → r ≡ pack (step .m) (laterOf step forms derived)
+
+-- until's derived row, with left's and right's rows
+unfoldable pub untilOf : (step : Step) → (forms derived : List (Form (step .m))) → Form (step .m)
+untilOf step forms derived =
+    or (step .m)
+    (onlyIf (step .m) (interval.inside (interval.shifted (intervalIn step) (step .shift)) (step .here) (step .here))
+    (put (step .m) (formIn (step .m) forms (step .record .right)) derived))
+    (laterOf step forms derived)
+
+abbrev pub OfUntil : Step → List ℕ → List ℕ → List ℕ → ℕ → List ℕ → Type 0
+OfUntil step left right ws scratch r =
+    (forms derived : List (Form (step .m))) → left ≡ pack (step .m) (formIn (step .m) forms (step .record .left))
+    → right ≡ pack (step .m) (formIn (step .m) forms (step .record .right))
+    → Holds (step .m) ws scratch (step .first) derived → r ≡ pack (step .m) (untilOf step forms derived)

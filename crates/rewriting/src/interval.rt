@@ -15,7 +15,11 @@ pub(crate) enum Shift {
 fn apart(here: u32, other: u32) -> usize
     ensures { λ r. ⌜ (r ≡ distance here other) × (r < 4294967296) ⌝ }
 {
-    if here < other { (other - here) as usize } else { (here - other) as usize }
+    if here < other {
+        (other - here) as usize
+    } else {
+        (here - other) as usize
+    }
 }
 
 // Whether the other record, seen from the one here, is in the interval.

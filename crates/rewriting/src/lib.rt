@@ -1,3 +1,5 @@
 // One record's rewriting on a lent area: a row by kind, and the loops over a rule's records.
+mod derived;
 mod interval;
 mod parts;
+pub mod step;
