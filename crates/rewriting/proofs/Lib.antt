@@ -1,3 +1,4 @@
 pub mod Ends
 pub mod Neighbours
+pub mod Nodes
 pub mod Shifts

@@ -7,8 +7,8 @@ use Rattle.forms.specs.Form.{Form, or}
 use Rattle.forms.specs.Words.{pack}
 use Rattle.forms.specs.Area.{formIn, Holds}
 use Rattle.meaning.specs.Interval as interval
-use Rattle.meaning.specs.Rule.{Node}
-use Rattle.meaning.specs.Rewriting.{put, onlyIf, rowTo, nextRow, untilLater}
+use Rattle.meaning.specs.Rule.{Node, Entry}
+use Rattle.meaning.specs.Rewriting.{put, onlyIf, rowTo, nextRow, untilLater, derivedRow}
 use Rattle.meaning.specs.Rewriting as rewriting
 use Rattle.rewriting.specs.Decode.{intervalOf, nodeOf}
 use Rattle.rewriting.specs.declared.step.Record.{Record}
@@ -48,7 +48,7 @@ OnlyWithRows test row ws base count r =
     (m : ℕ) (f : Form m) (rows : List (Form m)) → m ≤ 12 → row ≡ pack m f → Holds m ws base count rows
     → r ≡ pack m (onlyIf m test (put m f rows))
 
--- the neighbour, the interval and the record of the rule that a step has
+-- the neighbour, the interval, the record of the rule and that of the log that a step has
 unfoldable pub neighbourOf : Neighbour → rewriting.Neighbour
 neighbourOf None = rewriting.none
 neighbourOf (At time) = rewriting.at time
@@ -59,11 +59,15 @@ intervalIn step = intervalOf (step .record .low) (step .record .high)
 unfoldable pub nodeFor : Record → Node
 nodeFor d = nodeOf (d .kind) (d .left) (d .right) (d .low) (d .high)
 
+unfoldable pub entryIn : Step → Entry
+entryIn step = record { time = step .here; signals = step .signals }
+
 -- what a step's numbers keep to
 pub record Fair (step : Step) : Type 0 where
   pub few : step .m ≤ 12
   pub within : step .first ≤ 12
   pub byte : step .shift < 256
+  pub some : 1 ≤ step .record .kind
 
 -- the answer is next's derived row
 abbrev pub OfNext : Step → List ℕ → ℕ → List ℕ → Type 0
@@ -95,3 +99,15 @@ OfUntil step left right ws scratch r =
     (forms derived : List (Form (step .m))) → left ≡ pack (step .m) (formIn (step .m) forms (step .record .left))
     → right ≡ pack (step .m) (formIn (step .m) forms (step .record .right))
     → Holds (step .m) ws scratch (step .first) derived → r ≡ pack (step .m) (untilOf step forms derived)
+
+-- the derived row
+unfoldable pub derivedOf : (step : Step) → (past forms derived : List (Form (step .m))) → Form (step .m)
+derivedOf step past forms derived =
+    derivedRow (step .m) past forms derived (entryIn step) (neighbourOf (step .neighbour)) (step .first)
+    (nodeFor (step .record)) (step .shift)
+
+-- from the past rows, the forms of the k records before, and the derived rows of their parameters
+abbrev pub OfDerived : Step → List ℕ → ℕ → List ℕ → ℕ → List ℕ → Type 0
+OfDerived step fs k ws scratch r =
+    (past forms derived : List (Form (step .m))) → Holds (step .m) ws 0 (step .m) past → Holds (step .m) fs 0 k forms
+    → Holds (step .m) ws scratch (step .first) derived → r ≡ pack (step .m) (derivedOf step past forms derived)

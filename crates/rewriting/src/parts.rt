@@ -6,6 +6,7 @@ use forms::rows::parameter;
 use forms::table::put_in;
 ghost use mathlib.Core.Path.{_≡_};
 ghost use Prim.Native.Nat.{_+_, _≤_};
+ghost use Rattle.ground.specs.Bits.{bit};
 ghost use Rattle.forms.specs.Words.{pack};
 ghost use Rattle.meaning.specs.Rewriting.{parameterTo};
 ghost use Rattle.rewriting.specs.Steps.{movedOf, Near, OfRow, OfMoved, OnlyRow, OnlyWithRows};
@@ -77,4 +78,11 @@ pub(crate) fn only_row(test: bool, area: &[u64], count: usize, j: usize) -> [u64
     } else {
         constant(false)
     }
+}
+
+// Whether a signal holds, from the word of all of them.
+pub(crate) fn signal(signals: u16, s: u8) -> bool
+    ensures { λ r. ⌜ r ≡ bit signals s ⌝ }
+{
+    if s < 16 { (signals >> s) % 2 == 1 } else { false }
 }

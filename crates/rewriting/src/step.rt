@@ -15,12 +15,13 @@ pub enum Neighbour {
     At(u32),
 }
 
-// A record's first parameter and a shift, of m parameters, at a record of the log with its time and neighbour.
+// A record with its first parameter and a shift, of m parameters, at a record of the log with its neighbour.
 pub struct Step {
     pub record: Record,
     pub first: usize,
     pub shift: usize,
     pub m: usize,
     pub here: u32,
+    pub signals: u16,
     pub neighbour: Neighbour,
 }
