@@ -9,6 +9,7 @@ use Rattle.forms.specs.Area.{formIn, Holds}
 use Rattle.meaning.specs.Interval as interval
 use Rattle.meaning.specs.Rule.{Node, Entry}
 use Rattle.meaning.specs.Rewriting.{put, onlyIf, rowTo, nextRow, untilLater, derivedRow}
+use Rattle.meaning.specs.Rewriting.{previousRow, sinceEarlier, pastRow}
 use Rattle.meaning.specs.Rewriting as rewriting
 use Rattle.rewriting.specs.Decode.{intervalOf, nodeOf}
 use Rattle.rewriting.specs.declared.step.Record.{Record}
@@ -111,3 +112,58 @@ abbrev pub OfDerived : Step → List ℕ → ℕ → List ℕ → ℕ → List �
 OfDerived step fs k ws scratch r =
     (past forms derived : List (Form (step .m))) → Holds (step .m) ws 0 (step .m) past → Holds (step .m) fs 0 k forms
     → Holds (step .m) ws scratch (step .first) derived → r ≡ pack (step .m) (derivedOf step past forms derived)
+
+-- previous resolved, with left's row
+unfoldable pub previousOf : (step : Step) → (forms derived past : List (Form (step .m))) → Form (step .m)
+previousOf step forms derived past =
+    previousRow (step .m) forms derived past (step .record .left) (intervalIn step) (step .here)
+    (neighbourOf (step .neighbour))
+
+-- the area holds the derived rows of the log record before, and the past rows of the records before
+pub record Kept (m : ℕ) (ws : List ℕ) (scratch count first : ℕ) (derived past : List (Form m)) : Type 0 where
+  pub behind : Holds m ws scratch count derived
+  pub front : Holds m ws 0 first past
+
+abbrev pub OfPrevious : Step → List ℕ → List ℕ → ℕ → ℕ → List ℕ → Type 0
+OfPrevious step left ws scratch count r =
+    (forms derived past : List (Form (step .m))) → left ≡ pack (step .m) (formIn (step .m) forms (step .record .left))
+    → Kept (step .m) ws scratch count (step .first) derived past
+    → r ≡ pack (step .m) (previousOf step forms derived past)
+
+-- since's second part resolved, with left's row
+unfoldable pub earlierOf : (step : Step) → (forms derived past : List (Form (step .m))) → Form (step .m)
+earlierOf step forms derived past =
+    sinceEarlier (step .m) forms derived past (step .first) (step .record .left) (intervalIn step) (step .shift)
+    (step .here) (neighbourOf (step .neighbour))
+
+abbrev pub OfEarlier : Step → List ℕ → List ℕ → ℕ → ℕ → List ℕ → Type 0
+OfEarlier step left ws scratch count r =
+    (forms derived past : List (Form (step .m))) → left ≡ pack (step .m) (formIn (step .m) forms (step .record .left))
+    → Kept (step .m) ws scratch count (step .first) derived past
+    → r ≡ pack (step .m) (earlierOf step forms derived past)
+
+-- since resolved, with left's and right's rows
+unfoldable pub sinceOf : (step : Step) → (forms derived past : List (Form (step .m))) → Form (step .m)
+sinceOf step forms derived past =
+    or (step .m)
+    (onlyIf (step .m) (interval.inside (interval.shifted (intervalIn step) (step .shift)) (step .here) (step .here))
+    (put (step .m) (formIn (step .m) forms (step .record .right)) past))
+    (earlierOf step forms derived past)
+
+abbrev pub OfSince : Step → List ℕ → List ℕ → List ℕ → ℕ → ℕ → List ℕ → Type 0
+OfSince step left right ws scratch count r =
+    (forms derived past : List (Form (step .m))) → left ≡ pack (step .m) (formIn (step .m) forms (step .record .left))
+    → right ≡ pack (step .m) (formIn (step .m) forms (step .record .right))
+    → Kept (step .m) ws scratch count (step .first) derived past
+    → r ≡ pack (step .m) (sinceOf step forms derived past)
+
+-- the past row
+unfoldable pub pastOf : (step : Step) → (forms derived past : List (Form (step .m))) → Form (step .m)
+pastOf step forms derived past =
+    pastRow (step .m) forms derived past (entryIn step) (neighbourOf (step .neighbour)) (step .first)
+    (nodeFor (step .record)) (step .shift)
+
+abbrev pub OfPast : Step → List ℕ → ℕ → List ℕ → ℕ → ℕ → List ℕ → Type 0
+OfPast step fs k ws scratch count r =
+    (forms derived past : List (Form (step .m))) → Holds (step .m) fs 0 k forms
+    → Kept (step .m) ws scratch count (step .first) derived past → r ≡ pack (step .m) (pastOf step forms derived past)

@@ -2,4 +2,5 @@
 mod derived;
 mod interval;
 mod parts;
+mod past;
 pub mod step;
