@@ -72,11 +72,11 @@ module _ (P : Node → Type 0) (l r low high : ℕ) where
       go false e = subst P (sym (node-since kind l r low high h (eqb-false kind 8 e))) b
 
 -- a record with another kind in its place
-abbrev nodeAs : Record → ℕ → Node
+abbrev pub nodeAs : Record → ℕ → Node
 nodeAs d kind = nodeOf kind (d .left) (d .right) (d .low) (d .high)
 
 -- the row of a record whose kind is known
-row-as : (m : ℕ) (F : Node → Form m) (d : Record) (r : List ℕ) (kind : ℕ) → d .kind ≡ kind
+pub row-as : (m : ℕ) (F : Node → Form m) (d : Record) (r : List ℕ) (kind : ℕ) → d .kind ≡ kind
     → r ≡ pack m (F (nodeAs d kind)) → r ≡ pack m (F (nodeFor d))
 unfolding nodeFor
 row-as m F d r kind e h = h ∙ ap (λ k. pack m (F (nodeAs d k))) (sym e)

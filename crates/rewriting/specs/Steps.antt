@@ -8,7 +8,7 @@ use Rattle.forms.specs.Words.{pack}
 use Rattle.forms.specs.Area.{formIn, Holds}
 use Rattle.meaning.specs.Interval as interval
 use Rattle.meaning.specs.Rule.{Node, Entry}
-use Rattle.meaning.specs.Rewriting.{put, onlyIf, rowTo, nextRow, untilLater, derivedRow}
+use Rattle.meaning.specs.Rewriting.{put, onlyIf, formOf, rowTo, nextRow, untilLater, derivedRow}
 use Rattle.meaning.specs.Rewriting.{previousRow, sinceEarlier, pastRow}
 use Rattle.meaning.specs.Rewriting as rewriting
 use Rattle.rewriting.specs.Decode.{intervalOf, nodeOf}
@@ -69,6 +69,11 @@ pub record Fair (step : Step) : Type 0 where
   pub within : step .first ≤ 12
   pub byte : step .shift < 256
   pub some : 1 ≤ step .record .kind
+
+-- the answer is the record's form, from the forms of the k records before it
+abbrev pub OfRecord : Record → ℕ → (m : ℕ) → List ℕ → ℕ → List ℕ → Type 0
+OfRecord d first m ws k r =
+    (forms : List (Form m)) → Holds m ws 0 k forms → r ≡ pack m (formOf m forms first (nodeFor d))
 
 -- the answer is next's derived row
 abbrev pub OfNext : Step → List ℕ → ℕ → List ℕ → Type 0
