@@ -1,0 +1,36 @@
+-- The rule that bytes hold (document 01, "Lists on disk").
+use mathlib.Core.Bool.{true, false, cond}
+use mathlib.Core.List.{List}
+use Prim.Native.Nat.{ℕ, _+_, _*_}
+use lib.Dec.{eqb}
+use lib.ListN.{getD}
+use Rattle.ground.specs.Fold.{tab}
+use Rattle.meaning.specs.Interval.{Interval, between, onward}
+use Rattle.meaning.specs.Rule.{Node, fixed, signal, both, either, next, until, previous, since}
+
+-- byte i of record k of a list, eight bytes a record
+unfoldable pub byteOf : List ℕ → ℕ → ℕ → ℕ
+byteOf list k i = getD list (8 * k + i) 0
+
+-- low to high; high 255 means no upper end
+unfoldable pub intervalOf : ℕ → ℕ → Interval
+intervalOf low high = cond (eqb high 255) (onward low) (between low high)
+
+-- the record of a kind, with its bytes
+unfoldable pub nodeOf : (kind left right low high : ℕ) → Node
+nodeOf kind left right low high =
+    cond (eqb kind 1) (fixed true)
+    (cond (eqb kind 2) (fixed false)
+    (cond (eqb kind 3) (signal left)
+    (cond (eqb kind 4) (both left right)
+    (cond (eqb kind 5) (either left right)
+    (cond (eqb kind 6) (next left (intervalOf low high))
+    (cond (eqb kind 7) (until left right (intervalOf low high))
+    (cond (eqb kind 8) (previous left (intervalOf low high)) (since left right (intervalOf low high)))))))))
+
+unfoldable pub nodeIn : List ℕ → ℕ → Node
+nodeIn list k = nodeOf (byteOf list k 0) (byteOf list k 1) (byteOf list k 2) (byteOf list k 4) (byteOf list k 5)
+
+-- the rule in the first n records of a list
+unfoldable pub ruleIn : List ℕ → ℕ → List Node
+ruleIn list n = tab n (nodeIn list)

@@ -1,0 +1,7 @@
+// One record's rewriting on a lent area: a row by kind, and the loops over a rule's records.
+mod derived;
+mod form;
+mod interval;
+mod parts;
+mod past;
+pub mod step;

@@ -1,0 +1,88 @@
+// The rows that a record's equations are made of.
+use crate::interval::Shift;
+use forms::area::load;
+use forms::rows::constant;
+use forms::rows::parameter;
+use forms::table::put_in;
+ghost use mathlib.Core.Path.{_≡_};
+ghost use Prim.Native.Nat.{_+_, _≤_};
+ghost use Rattle.ground.specs.Bits.{bit};
+ghost use Rattle.forms.specs.Words.{pack};
+ghost use Rattle.meaning.specs.Rewriting.{parameterTo};
+ghost use Rattle.rewriting.specs.Steps.{movedOf, Near, OfRow, OfMoved, OnlyRow, OnlyWithRows};
+
+// Row j of the count rows from base on; false past them.
+pub(crate) fn row_of(area: &[u64], base: usize, count: usize, j: usize) -> [u64; 64]
+    requires { ⌜ base + count ≤ 64 ⌝ }
+    ensures { λ r. ⌜ OfRow (now (area .entry)) base count j r ⌝ }
+{
+    if j < count {
+        load(area, base + j)
+    } else {
+        constant(false)
+    }
+}
+
+// The row with the area's rows put in, if the test passes; else false.
+pub(crate) fn only_put(
+    test: bool,
+    row: [u64; 64],
+    area: &[u64],
+    base: usize,
+    count: usize,
+) -> [u64; 64]
+    ensures { λ r. ⌜ OnlyWithRows test row (now (area .entry)) base count r ⌝ }
+{
+    if test {
+        put_in(row, area, base, count)
+    } else {
+        constant(false)
+    }
+}
+
+// The parameter of a moved shift; false where it is gone.
+pub(crate) fn parameter_to(first: usize, shift: Shift, m: usize) -> [u64; 64]
+    requires { ⌜ (first ≤ 12) × Near shift ⌝ }
+    ensures { λ r. ⌜ r ≡ pack m (parameterTo m first (movedOf shift)) ⌝ }
+{
+    match shift {
+        Shift::Gone => constant(false),
+        Shift::To(n) => parameter(first + n, m),
+    }
+}
+
+// The row of a moved shift; false where it is gone.
+pub(crate) fn row_to(
+    area: &[u64],
+    base: usize,
+    count: usize,
+    first: usize,
+    shift: Shift,
+) -> [u64; 64]
+    requires { ⌜ (base + count ≤ 64) × (first ≤ 12) × Near shift ⌝ }
+    ensures { λ r. ⌜ OfMoved (now (area .entry)) base count first (movedOf shift) r ⌝ }
+{
+    match shift {
+        Shift::Gone => constant(false),
+        Shift::To(n) => row_of(area, base, count, first + n),
+    }
+}
+
+// Row j of the first count rows, if the test passes; else false.
+pub(crate) fn only_row(test: bool, area: &[u64], count: usize, j: usize) -> [u64; 64]
+    requires { ⌜ count ≤ 64 ⌝ }
+    ensures { λ r. ⌜ OnlyRow test (now (area .entry)) count j r ⌝ }
+{
+    if test {
+        row_of(area, 0, count, j)
+    } else {
+        constant(false)
+    }
+}
+
+// Whether a signal holds, from the word of all of them.
+pub(crate) fn signal(signals: u16, s: u8) -> bool
+    ensures { λ r. ⌜ r ≡ bit signals s ⌝ }
+{
+    if s < 16 { (signals >> s) % 2 == 1 } else { false }
+}

@@ -1,0 +1,27 @@
+// What one row is made from.
+
+// A record of a rule, from its bytes.
+pub struct Record {
+    pub kind: u8,
+    pub left: u8,
+    pub right: u8,
+    pub low: u8,
+    pub high: u8,
+}
+
+// The neighbouring record of the log: there is none, or it has a time.
+pub enum Neighbour {
+    None,
+    At(u32),
+}
+
+// A record with its first parameter and a shift, of m parameters, at a record of the log with its neighbour.
+pub struct Step {
+    pub record: Record,
+    pub first: usize,
+    pub shift: usize,
+    pub m: usize,
+    pub here: u32,
+    pub signals: u16,
+    pub neighbour: Neighbour,
+}
