@@ -28,9 +28,16 @@ pub node-since : (kind l r low high : ℕ) → 8 ≤ kind → (kind ≡ 8 → �
     → nodeOf kind l r low high ≡ since l r (intervalOf low high)
 unfolding nodeOf
 node-since kind l r low high h n =
-    rw (ne-eqb kind 1 (λ e. omega (arith, e)), ne-eqb kind 2 (λ e. omega (arith, e)), ne-eqb kind 3 (λ e. omega (arith, e)),
-    ne-eqb kind 4 (λ e. omega (arith, e)), ne-eqb kind 5 (λ e. omega (arith, e)), ne-eqb kind 6 (λ e. omega (arith, e)),
-    ne-eqb kind 7 (λ e. omega (arith, e)), ne-eqb kind 8 n)
+    rw (
+      ne-eqb kind 1 (λ e. omega (arith, e)),
+      ne-eqb kind 2 (λ e. omega (arith, e)),
+      ne-eqb kind 3 (λ e. omega (arith, e)),
+      ne-eqb kind 4 (λ e. omega (arith, e)),
+      ne-eqb kind 5 (λ e. omega (arith, e)),
+      ne-eqb kind 6 (λ e. omega (arith, e)),
+      ne-eqb kind 7 (λ e. omega (arith, e)),
+      ne-eqb kind 8 n,
+    )
 
 -- what holds of a record's kinds holds of the record
 module _ (P : Node → Type 0) (l r low high : ℕ) where

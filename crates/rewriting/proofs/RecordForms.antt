@@ -33,9 +33,11 @@ module _ (P : Node → Type 0) (l r low high : ℕ) where
       small (suc (suc (suc (suc zero)))) n₁ n₂ n₄ n₅ h = absurd (n₄ refl)
       small (suc (suc (suc (suc (suc zero))))) n₁ n₂ n₄ n₅ h = absurd (n₅ refl)
       small (suc (suc (suc (suc (suc (suc k)))))) n₁ n₂ n₄ n₅ h = absurd (omega arith)
+
       middle : (t : Bool) → 6 ≤ kind → leb 8 kind ≡ t → P (nodeOf kind l r low high)
       middle true h i = kind-past P l r low high d e kind (leb-true 8 kind i)
       middle false h i = kind-future P l r low high b c kind h (leb-false 8 kind i)
+
       large : (t : Bool) → leb 6 kind ≡ t → P (nodeOf kind l r low high)
       large true i = middle (leb 8 kind) (leb-true 6 kind i) refl
       large false i = small kind n₁ n₂ n₄ n₅ (leb-false 6 kind i)

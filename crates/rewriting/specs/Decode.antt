@@ -8,9 +8,13 @@ use Rattle.ground.specs.Fold.{tab}
 use Rattle.meaning.specs.Interval.{Interval, between, onward}
 use Rattle.meaning.specs.Rule.{Node, fixed, signal, both, either, next, until, previous, since}
 
--- byte i of record k of a list, eight bytes a record
+-- bytes of a record
+abbrev pub recordBytes : ℕ
+recordBytes = 8
+
+-- byte i of record k of a list
 unfoldable pub byteOf : List ℕ → ℕ → ℕ → ℕ
-byteOf list k i = getD list (8 * k + i) 0
+byteOf list k i = getD list (recordBytes * k + i) 0
 
 -- low to high; high 255 means no upper end
 unfoldable pub intervalOf : ℕ → ℕ → Interval

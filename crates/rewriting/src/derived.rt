@@ -72,7 +72,13 @@ fn until_row(
 }
 
 // The derived row of a record's shift. The past rows stand first in the area, the derived rows in its scratch.
-pub(crate) fn derived_row(step: Step, forms: &[u64], k: usize, area: &[u64], scratch: usize) -> [u64; 64]
+pub(crate) fn derived_row(
+    step: Step,
+    forms: &[u64],
+    k: usize,
+    area: &[u64],
+    scratch: usize,
+) -> [u64; 64]
     requires { ⌜ Fair step × (k ≤ 64) ⌝ }
     ensures { λ r. ⌜ OfDerived step (now (forms .entry)) k (now (area .entry)) scratch r ⌝ }
 {

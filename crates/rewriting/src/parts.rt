@@ -84,5 +84,9 @@ pub(crate) fn only_row(test: bool, area: &[u64], count: usize, j: usize) -> [u64
 pub(crate) fn signal(signals: u16, s: u8) -> bool
     ensures { λ r. ⌜ r ≡ bit signals s ⌝ }
 {
-    if s < 16 { (signals >> s) % 2 == 1 } else { false }
+    if s < 16 {
+        (signals >> s) % 2 == 1
+    } else {
+        false
+    }
 }

@@ -18,7 +18,13 @@ ghost use Prim.Native.Nat.{_+_, _≤_};
 ghost use Rattle.rewriting.specs.Steps.{Fair, OfPrevious, OfEarlier, OfSince, OfPast};
 
 // Previous resolved: left with the derived rows put in, then the past rows; false at the first record.
-fn previous_row(step: Step, left: [u64; 64], area: &[u64], scratch: usize, count: usize) -> [u64; 64]
+fn previous_row(
+    step: Step,
+    left: [u64; 64],
+    area: &[u64],
+    scratch: usize,
+    count: usize,
+) -> [u64; 64]
     requires { ⌜ Fair step ⌝ }
     ensures { λ r. ⌜ OfPrevious step left (now (area .entry)) scratch count r ⌝ }
 {
@@ -34,7 +40,13 @@ fn previous_row(step: Step, left: [u64; 64], area: &[u64], scratch: usize, count
 }
 
 // Since's second part resolved: left, and the derived row of the moved shift; false at the first record.
-fn since_earlier(step: Step, left: [u64; 64], area: &[u64], scratch: usize, count: usize) -> [u64; 64]
+fn since_earlier(
+    step: Step,
+    left: [u64; 64],
+    area: &[u64],
+    scratch: usize,
+    count: usize,
+) -> [u64; 64]
     requires { ⌜ Fair step × (scratch + count ≤ 64) ⌝ }
     ensures { λ r. ⌜ OfEarlier step left (now (area .entry)) scratch count r ⌝ }
 {
@@ -42,7 +54,13 @@ fn since_earlier(step: Step, left: [u64; 64], area: &[u64], scratch: usize, coun
     match neighbour {
         Neighbour::None => constant(false),
         Neighbour::At(other) => {
-            let shift = moved(step.record.low, step.record.high, step.shift, step.here, other);
+            let shift = moved(
+                step.record.low,
+                step.record.high,
+                step.shift,
+                step.here,
+                other,
+            );
             let derived = row_to(area, scratch, count, step.first, shift);
             let before = put_in(derived, area, 0, step.first);
             let kept = put_in(left, area, 0, step.first);
@@ -52,7 +70,14 @@ fn since_earlier(step: Step, left: [u64; 64], area: &[u64], scratch: usize, coun
 }
 
 // Since resolved: right, if 0 is in the shifted interval, or its second part.
-fn since_row(step: Step, left: [u64; 64], right: [u64; 64], area: &[u64], scratch: usize, count: usize) -> [u64; 64]
+fn since_row(
+    step: Step,
+    left: [u64; 64],
+    right: [u64; 64],
+    area: &[u64],
+    scratch: usize,
+    count: usize,
+) -> [u64; 64]
     requires { ⌜ Fair step × (scratch + count ≤ 64) ⌝ }
     ensures { λ r. ⌜ OfSince step left right (now (area .entry)) scratch count r ⌝ }
 {
@@ -63,7 +88,14 @@ fn since_row(step: Step, left: [u64; 64], right: [u64; 64], area: &[u64], scratc
 }
 
 // The past row of a record's shift.
-pub(crate) fn past_row(step: Step, forms: &[u64], k: usize, area: &[u64], scratch: usize, count: usize) -> [u64; 64]
+pub(crate) fn past_row(
+    step: Step,
+    forms: &[u64],
+    k: usize,
+    area: &[u64],
+    scratch: usize,
+    count: usize,
+) -> [u64; 64]
     requires { ⌜ Fair step × (k ≤ 64) × (scratch + count ≤ 64) ⌝ }
     ensures { λ r. ⌜ OfPast step (now (forms .entry)) k (now (area .entry)) scratch count r ⌝ }
 {

@@ -10,8 +10,10 @@ use lib.Dec.{eqb, leb, ltb}
 use lib.ListN.{length, getD, List·getD-eq-default}
 use Rattle.ground.specs.Fold.{fold, some}
 use Rattle.ground.proofs.Folds.{every-at, some-at, some-none}
-use Rattle.watcher.specs.Limits.{mostRecords, mostSignals, recordBytes, listBytes}
-use Rattle.watcher.specs.Rules.{byteOf, recordsOf, wrongLength, usedBytes, uses, fairLimits, usedRight}
+use Rattle.rewriting.specs.Decode.{recordBytes}
+use Rattle.watcher.specs.Limits.{mostRecords, mostSignals, listBytes}
+use Rattle.rewriting.specs.Decode.{byteOf}
+use Rattle.watcher.specs.Rules.{recordsOf, wrongLength, usedBytes, uses, fairLimits, usedRight}
 use Rattle.watcher.specs.Rules.{byteBreaks, sameRecord, hasTwins}
 
 -- the table of used bytes is false past its ends

@@ -17,8 +17,10 @@ use Rattle.meaning.specs.Rule.{nodeAt, Earlier, Ordered, parameters}
 use Rattle.watcher.specs.declared.state.Refusal.{Refusal}
 use Rattle.watcher.specs.declared.state.Found.{Found}
 use Rattle.watcher.specs.declared.state.Found.the-variants.{Fine, Refused}
-use Rattle.watcher.specs.Rules.{byteOf, recordsOf, wrongLength, usedBytes, uses, fairLimits, usedRight}
-use Rattle.watcher.specs.Rules.{byteBreaks, recordBreaks, ruleBreaks, hasTwins, nodeOf, nodeIn, ruleIn}
+use Rattle.rewriting.specs.Decode.{byteOf}
+use Rattle.watcher.specs.Rules.{recordsOf, wrongLength, usedBytes, uses, fairLimits, usedRight}
+use Rattle.rewriting.specs.Decode.{nodeOf, nodeIn, ruleIn}
+use Rattle.watcher.specs.Rules.{byteBreaks, recordBreaks, ruleBreaks, hasTwins}
 use Rattle.watcher.specs.Signals.{wrongSignals, namesMissing}
 use Rattle.watcher.specs.Lists.{firstRefusal, listTests, listsRefusal}
 use Rattle.watcher.specs.Rules.{manyParameters}

@@ -14,9 +14,11 @@ use Rattle.meaning.specs.Rewriting.{put, onlyIf, formOf, formsOf, parameterTo, 
 use Rattle.meaning.specs.Rewriting.{derivedRows, sinceEarlier, pastRow, pastRows}
 use Rattle.meaning.specs.Words.{start, first, feed, close, wordFor, word}
 use Rattle.watcher.specs.Numbers.{refusalNumber}
-use Rattle.watcher.specs.Rules.{byteOf, recordsOf, wrongLength, usedBytes, uses, fairLimits, usedRight}
-use Rattle.watcher.specs.Rules.{byteBreaks, recordBreaks, ruleBreaks, sameRecord, hasTwins, intervalOf, nodeOf}
-use Rattle.watcher.specs.Rules.{nodeIn, ruleIn}
+use Rattle.rewriting.specs.Decode.{byteOf}
+use Rattle.watcher.specs.Rules.{recordsOf, wrongLength, usedBytes, uses, fairLimits, usedRight}
+use Rattle.rewriting.specs.Decode.{intervalOf, nodeOf}
+use Rattle.watcher.specs.Rules.{byteBreaks, recordBreaks, ruleBreaks, sameRecord, hasTwins}
+use Rattle.rewriting.specs.Decode.{nodeIn, ruleIn}
 use Rattle.watcher.specs.Signals.{signalBreaks, wrongSignals, namesMissing, limitOf}
 use Rattle.watcher.specs.Records.{wrongRecord, timeOf, windOf, windMeets, meets, signalHolds}
 use Rattle.watcher.specs.Records.{signalWord, entryOf}

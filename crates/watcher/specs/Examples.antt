@@ -9,7 +9,8 @@ use Rattle.meaning.specs.Words.{Known, first, feed, close, Word, kept, broken, 
 use Rattle.watcher.specs.declared.state.Found.{Found}
 use Rattle.watcher.specs.declared.state.Found.the-variants.{Fine, Refused}
 use Rattle.watcher.specs.Numbers.{refusalNumber}
-use Rattle.watcher.specs.Rules.{recordsOf, ruleIn}
+use Rattle.rewriting.specs.Decode.{ruleIn}
+use Rattle.watcher.specs.Rules.{recordsOf}
 use Rattle.watcher.specs.Records.{wrongRecord, signalHolds, entryOf}
 use Rattle.watcher.specs.Lists.{listsRefusal}
 

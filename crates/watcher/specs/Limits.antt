@@ -1,5 +1,6 @@
 -- The limits of document 01, each named once; `Watcher::limits` ties the constants of the state's type to them.
 use Prim.Native.Nat.{ℕ}
+use Rattle.rewriting.specs.Decode.{recordBytes}
 use Rattle.watcher.specs.declared.state.Limits.{Limits}
 
 -- records of a rule, signals of a list, parameters of a rule
@@ -12,10 +13,7 @@ mostSignals = 16
 abbrev pub mostParameters : ℕ
 mostParameters = 12
 
--- bytes of a rule or signal record, of a whole list, of a log record
-abbrev pub recordBytes : ℕ
-recordBytes = 8
-
+-- bytes of a list of rule or signal records, of a log record
 abbrev pub listBytes : ℕ
 listBytes = 128
 

@@ -1,17 +1,13 @@
--- The rule list: its layout, and the rule that it holds (document 01, "Lists on disk").
+-- The rule list: its layout, and how many parameters its rule may have (document 01, "Lists on disk").
 use mathlib.Core.Bool.{Bool, true, false, not, _&&_, _||_, cond}
 use mathlib.Core.List.{List, [], _∷_}
-use Prim.Native.Nat.{ℕ, _+_, _*_, _/_, _%_}
+use Prim.Native.Nat.{ℕ, _/_, _%_}
 use lib.Dec.{eqb, leb, ltb}
 use lib.ListN.{length, getD}
-use Rattle.ground.specs.Fold.{every, some, tab}
-use Rattle.meaning.specs.Interval.{Interval, between, onward}
-use Rattle.meaning.specs.Rule.{Node, fixed, signal, both, either, next, until, previous, since, parameters}
-use Rattle.watcher.specs.Limits.{mostSignals, mostParameters, recordBytes, listBytes}
-
--- byte i of record k of a list
-unfoldable pub byteOf : List ℕ → ℕ → ℕ → ℕ
-byteOf list k i = getD list (recordBytes * k + i) 0
+use Rattle.ground.specs.Fold.{every, some}
+use Rattle.meaning.specs.Rule.{parameters}
+use Rattle.rewriting.specs.Decode.{recordBytes, byteOf, ruleIn}
+use Rattle.watcher.specs.Limits.{mostSignals, mostParameters, listBytes}
 
 -- how many records a list has
 unfoldable pub recordsOf : List ℕ → ℕ
@@ -68,29 +64,6 @@ sameRecord list i j = every recordBytes (λ b. eqb (byteOf list i b) (byteOf lis
 -- two records have the same eight bytes: some record has an earlier twin
 unfoldable pub hasTwins : List ℕ → Bool
 hasTwins list = some (recordsOf list) (λ i. some i (sameRecord list i))
-
--- low to high; high 255 means no upper end
-unfoldable pub intervalOf : ℕ → ℕ → Interval
-intervalOf low high = cond (eqb high 255) (onward low) (between low high)
-
--- the record of a kind, with its bytes
-unfoldable pub nodeOf : (kind left right low high : ℕ) → Node
-nodeOf kind left right low high =
-    cond (eqb kind 1) (fixed true)
-    (cond (eqb kind 2) (fixed false)
-    (cond (eqb kind 3) (signal left)
-    (cond (eqb kind 4) (both left right)
-    (cond (eqb kind 5) (either left right)
-    (cond (eqb kind 6) (next left (intervalOf low high))
-    (cond (eqb kind 7) (until left right (intervalOf low high))
-    (cond (eqb kind 8) (previous left (intervalOf low high)) (since left right (intervalOf low high)))))))))
-
-unfoldable pub nodeIn : List ℕ → ℕ → Node
-nodeIn list k = nodeOf (byteOf list k 0) (byteOf list k 1) (byteOf list k 2) (byteOf list k 4) (byteOf list k 5)
-
--- the rule in the first n records of a list
-unfoldable pub ruleIn : List ℕ → ℕ → List Node
-ruleIn list n = tab n (nodeIn list)
 
 -- more parameters than a rule may have, counted over all its records
 unfoldable pub manyParameters : List ℕ → Bool

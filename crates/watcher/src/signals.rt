@@ -7,7 +7,8 @@ ghost use mathlib.Core.Bool.{_&&_};
 ghost use Prim.Native.Nat.{_<_};
 ghost use lib.Dec.{eqb, leb};
 ghost use Rattle.ground.specs.Fold.{some};
-ghost use Rattle.watcher.specs.Rules.{byteOf, recordsOf};
+ghost use Rattle.rewriting.specs.Decode.{byteOf};
+ghost use Rattle.watcher.specs.Rules.{recordsOf};
 ghost use Rattle.watcher.specs.Signals.{signalBreaks, namesMissing};
 
 // Whether record k breaks the layout.

@@ -1,7 +1,7 @@
 -- `lists::byte_of` meets its contract: the byte at its place, zero past the end.
 -- Assumes nothing.
 use borrow.Author.Needs.{needs}
-use Rattle.watcher.specs.Rules.{byteOf}
+use Rattle.rewriting.specs.Decode.{byteOf}
 use Rattle.watcher.proofs.lists.byte_of.Statement.{statement}
 use Rattle.watcher.proofs.lists.byte_of.Tie as tie
 

@@ -5,7 +5,7 @@ use Prim.Native.Nat.{_-_, _*_, _≤_}
 use native.Mathlib.Omega.{arith}
 use borrow.Author.Needs.{needs}
 use Rattle.meaning.specs.Rule.{firstOf}
-use Rattle.watcher.specs.Rules.{ruleIn}
+use Rattle.rewriting.specs.Decode.{ruleIn}
 use Rattle.watcher.proofs.Counting.{firstOf-rule, parameters-done}
 use Rattle.watcher.proofs.lists.parameters_in.Statement.{statement}
 use Rattle.watcher.proofs.lists.parameters_in.Tie as tie

@@ -7,7 +7,7 @@ use native.Mathlib.Omega.{arith}
 use borrow.Author.Count.{below-none, below-more}
 use borrow.Author.Needs.{needs}
 use Rattle.ground.proofs.Folds.{some-at, some-none}
-use Rattle.watcher.specs.Limits.{recordBytes}
+use Rattle.rewriting.specs.Decode.{recordBytes}
 use Rattle.watcher.specs.Rules.{byteBreaks, recordBreaks}
 use Rattle.watcher.proofs.lists.record_breaks.Statement.{statement}
 use Rattle.watcher.proofs.lists.record_breaks.Tie as tie

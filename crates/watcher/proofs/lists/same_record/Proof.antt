@@ -7,8 +7,9 @@ use borrow.Author.Count.{below-more}
 use borrow.Author.Tests.{eq-eqb}
 use borrow.Author.Needs.{needs}
 use Rattle.ground.proofs.Folds.{every-all, every-not}
-use Rattle.watcher.specs.Limits.{recordBytes}
-use Rattle.watcher.specs.Rules.{byteOf, sameRecord}
+use Rattle.rewriting.specs.Decode.{recordBytes}
+use Rattle.rewriting.specs.Decode.{byteOf}
+use Rattle.watcher.specs.Rules.{sameRecord}
 use Rattle.watcher.proofs.Checking.{bytes-differ}
 use Rattle.watcher.proofs.lists.same_record.Statement.{statement}
 use Rattle.watcher.proofs.lists.same_record.Tie as tie

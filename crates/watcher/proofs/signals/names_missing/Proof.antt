@@ -8,7 +8,8 @@ use lib.Dec.{eqb, leb}
 use borrow.Author.Count.{below-more}
 use borrow.Author.Needs.{needs}
 use Rattle.ground.proofs.Folds.{some-at, some-none}
-use Rattle.watcher.specs.Rules.{byteOf, recordsOf}
+use Rattle.rewriting.specs.Decode.{byteOf}
+use Rattle.watcher.specs.Rules.{recordsOf}
 use Rattle.watcher.specs.Signals.{namesMissing}
 use Rattle.watcher.proofs.signals.names_missing.Statement.{statement}
 use Rattle.watcher.proofs.signals.names_missing.Tie as tie

@@ -4,7 +4,8 @@ use mathlib.Core.Path.{sym, ap, _∙_}
 use native.Mathlib.Omega.{arith}
 use lib.Dec.{leb}
 use borrow.Author.Needs.{needs}
-use Rattle.watcher.specs.Rules.{byteOf, recordsOf}
+use Rattle.rewriting.specs.Decode.{byteOf}
+use Rattle.watcher.specs.Rules.{recordsOf}
 use Rattle.watcher.proofs.RecordLaws.{first-byte, names-none, names-one}
 use Rattle.watcher.proofs.signals.names_missing_at.Statement.{statement}
 use Rattle.watcher.proofs.signals.names_missing_at.Tie as tie

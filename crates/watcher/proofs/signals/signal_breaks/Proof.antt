@@ -5,7 +5,8 @@ use mathlib.Core.Bool.{not}
 use native.Mathlib.Omega.{arith}
 use lib.Dec.{eqb}
 use borrow.Author.Needs.{needs}
-use Rattle.watcher.specs.Rules.{byteOf, recordsOf}
+use Rattle.rewriting.specs.Decode.{byteOf}
+use Rattle.watcher.specs.Rules.{recordsOf}
 use Rattle.watcher.proofs.RecordLaws.{first-byte, signal-low, signal-high, signal-sense, signal-zeros}
 use Rattle.watcher.proofs.signals.signal_breaks.Statement.{statement}
 use Rattle.watcher.proofs.signals.signal_breaks.Tie as tie
