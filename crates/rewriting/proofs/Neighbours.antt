@@ -33,21 +33,26 @@ earlierWith step forms derived past neighbour =
     sinceEarlier (step .m) forms derived past (step .first) (step .record .left) (intervalIn step) (step .shift)
     (step .here) neighbour
 
+abbrev pub nextWith : (step : Step) → (m : ℕ) → List (Form m) → Neighbour → Form m
+nextWith step m forms neighbour =
+    nextRow m forms (step .record .left) (intervalIn step) (step .here) neighbour
+
 module _ (step : Step) (r : List ℕ) where
   module _ (m : ℕ) (forms : List (Form m)) where
     pub next-none : step .neighbour ≡ None → r ≡ pack m (constant m false)
-        → r ≡ pack m (nextRow m forms (step .record .left) (intervalIn step) (step .here) (neighbourOf (step .neighbour)))
+        → r ≡ pack m (nextWith step m forms (neighbourOf (step .neighbour)))
     unfolding nextRow neighbourOf
     next-none e h =
-        h ∙ ap (λ b. pack m (nextRow m forms (step .record .left) (intervalIn step) (step .here) (neighbourOf b))) (sym e)
+        h ∙ ap (λ b. pack m (nextWith step m forms (neighbourOf b))) (sym e)
 
-    pub next-at : (other : ℕ) (b : Bool) → step .neighbour ≡ At other → b ≡ inside (intervalIn step) (step .here) other
+    pub next-at : (other : ℕ) (b : Bool) → step .neighbour ≡ At other
+        → b ≡ inside (intervalIn step) (step .here) other
         → r ≡ pack m (onlyIf m b (formIn m forms (step .record .left)))
-        → r ≡ pack m (nextRow m forms (step .record .left) (intervalIn step) (step .here) (neighbourOf (step .neighbour)))
+        → r ≡ pack m (nextWith step m forms (neighbourOf (step .neighbour)))
     unfolding nextRow neighbourOf
     next-at other b e i h =
         h ∙ ap (λ b′. pack m (onlyIf m b′ (formIn m forms (step .record .left)))) i
-        ∙ ap (λ n. pack m (nextRow m forms (step .record .left) (intervalIn step) (step .here) (neighbourOf n))) (sym e)
+        ∙ ap (λ n. pack m (nextWith step m forms (neighbourOf n))) (sym e)
 
   module _ (forms derived : List (Form (step .m))) where
     pub later-none : step .neighbour ≡ None → r ≡ pack (step .m) (constant (step .m) false)
@@ -61,8 +66,9 @@ module _ (step : Step) (r : List ℕ) where
         (parameterTo (step .m) (step .first) to′)) → r ≡ pack (step .m) (laterOf step forms derived)
     unfolding laterOf untilLater neighbourOf
     later-at other to′ e i h =
-        h ∙ ap (λ v. pack (step .m) (and (step .m) (put (step .m) (formIn (step .m) forms (step .record .left)) derived)
-        (parameterTo (step .m) (step .first) v))) i ∙ ap (λ n. pack (step .m) (laterWith step forms derived (neighbourOf n))) (sym e)
+        let left = put (step .m) (formIn (step .m) forms (step .record .left)) derived in
+        h ∙ ap (λ v. pack (step .m) (and (step .m) left (parameterTo (step .m) (step .first) v))) i
+        ∙ ap (λ n. pack (step .m) (laterWith step forms derived (neighbourOf n))) (sym e)
 
   module _ (forms derived past : List (Form (step .m))) where
     pub previous-none : step .neighbour ≡ None → r ≡ pack (step .m) (constant (step .m) false)

@@ -91,7 +91,8 @@ row-as m F d r kind e h = h ∙ ap (λ k. pack m (F (nodeAs d k))) (sym e)
 -- a step's derived row with another record of the rule in its place
 abbrev derivedWith : (step : Step) → (past forms derived : List (Form (step .m))) → Node → Form (step .m)
 derivedWith step past forms derived d =
-    derivedRow (step .m) past forms derived (entryIn step) (neighbourOf (step .neighbour)) (step .first) d (step .shift)
+    derivedRow (step .m) past forms derived (entryIn step) (neighbourOf (step .neighbour)) (step .first) d
+    (step .shift)
 
 module _ (step : Step) (past forms derived : List (Form (step .m))) (r : List ℕ) where
   derived-as : (kind : ℕ) → step .record .kind ≡ kind
@@ -121,8 +122,8 @@ module _ (step : Step) (past forms derived : List (Form (step .m))) (r : List �
   unfolding derivedOf derivedRow nodeFor
   derived-quiet a b n h =
       h ∙ ap (pack (step .m))
-      (sym (kind-quiet (λ d. derivedWith step past forms derived d ≡ constant (step .m) false) _ _ _ _ refl refl refl refl
-      (step .record .kind) a b n))
+      (sym (kind-quiet (λ d. derivedWith step past forms derived d ≡ constant (step .m) false) _ _ _ _ refl refl refl
+      refl (step .record .kind) a b n))
 
   pub derived-past : 8 ≤ step .record .kind
       → r ≡ pack (step .m) (put (step .m) (formIn (step .m) past (step .first + step .shift)) derived)
@@ -157,8 +158,8 @@ module _ (step : Step) (forms derived past : List (Form (step .m))) (r : List �
   unfolding pastOf pastRow nodeFor
   past-quiet a b n h =
       h ∙ ap (pack (step .m))
-      (sym (kind-quiet (λ d. pastWith step forms derived past d ≡ constant (step .m) false) _ _ _ _ refl refl refl refl
-      (step .record .kind) a b n))
+      (sym (kind-quiet (λ d. pastWith step forms derived past d ≡ constant (step .m) false) _ _ _ _ refl refl refl
+      refl (step .record .kind) a b n))
 
   pub past-self : 6 ≤ step .record .kind → step .record .kind < 8
       → r ≡ pack (step .m) (parameter (step .m) (step .first + step .shift))
@@ -166,8 +167,8 @@ module _ (step : Step) (forms derived past : List (Form (step .m))) (r : List �
   unfolding pastOf pastRow nodeFor
   past-self a b h =
       h ∙ ap (pack (step .m))
-      (sym (kind-future (λ d. pastWith step forms derived past d ≡ parameter (step .m) (step .first + step .shift)) _ _ _ _
-      refl refl (step .record .kind) a b))
+      (sym (kind-future (λ d. pastWith step forms derived past d ≡ parameter (step .m) (step .first + step .shift))
+      _ _ _ _ refl refl (step .record .kind) a b))
 
   pub past-previous : step .record .kind ≡ 8 → r ≡ pack (step .m) (previousOf step forms derived past)
       → r ≡ pack (step .m) (pastOf step forms derived past)

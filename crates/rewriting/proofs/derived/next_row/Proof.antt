@@ -25,11 +25,19 @@ only-row-requires : tie.Need-only-row-requires
 only-row-requires c κs = search needs
 
 returns : tie.Need-returns
-returns c m forms h = next-none (c .before .before .before .before .args .step) _ m forms (c .before .enum-told .given .1) (c .constant .ensures m)
+returns c m forms h =
+    next-none (c .before .before .before .before .args .step) _ m forms (c .before .enum-told .given .1)
+    (c .constant .ensures m)
 
 returns-2 : tie.Need-returns-2
 unfolding intervalIn
-returns-2 c m forms h = next-at (c .before .before .before .before .before .before .before .args .step) _ m forms _ _ (c .before .before .before .before .neighbour .given .1) (c .before .before .inside .ensures) (c .only-row .ensures m forms h)
+returns-2 c m forms h =
+    next-at (c .before .before .before .before .before .before .before .args .step) _ m forms _ _
+    (c .before .before .before .before .neighbour .given .1) (c .before .before .inside .ensures)
+    (c .only-row .ensures m forms h)
 
 pub next-row-spec : {M : Type 1} → statement M
-next-row-spec = tie.close (tie.spec enum-told constant-requires enum-known-neighbour inside-requires cast-only-row only-row-requires returns returns-2)
+next-row-spec =
+    tie.close
+    (tie.spec enum-told constant-requires enum-known-neighbour inside-requires cast-only-row only-row-requires
+    returns returns-2)

@@ -29,11 +29,22 @@ and-requires : tie.Need-and-requires
 and-requires c κs = search needs
 
 returns : tie.Need-returns
-returns c forms derived e h = later-none (c .before .before .before .before .args .step) _ forms derived (c .before .enum-told .given .1) (c .constant .ensures _)
+returns c forms derived e h =
+    later-none (c .before .before .before .before .args .step) _ forms derived (c .before .enum-told .given .1)
+    (c .constant .ensures _)
 
 returns-2 : tie.Need-returns-2
 unfolding intervalIn put
-returns-2 c forms derived e h = let step = c .before .before .before .before .before .before .before .before .args .step in let few = c .before .before .before .before .before .before .before .before .pre .few in later-at step _ forms derived _ _ (c .before .before .before .before .before .neighbour .given .1) (c .before .before .before .moved .ensures .0) (c .and .ensures (step .m) _ _ few (c .before .put-in .ensures (step .m) _ derived few e h) (c .before .before .parameter-to .ensures))
+returns-2 c forms derived e h =
+    let step = c .before .before .before .before .before .before .before .before .args .step in
+    let few = c .before .before .before .before .before .before .before .before .pre .few in
+    later-at step _ forms derived _ _ (c .before .before .before .before .before .neighbour .given .1)
+    (c .before .before .before .moved .ensures .0)
+    (c .and .ensures (step .m) _ _ few (c .before .put-in .ensures (step .m) _ derived few e h)
+    (c .before .before .parameter-to .ensures))
 
 pub until-later-spec : {M : Type 1} → statement M
-until-later-spec = tie.close (tie.spec enum-told constant-requires enum-known-neighbour moved-requires parameter-to-requires put-in-requires and-requires returns returns-2)
+until-later-spec =
+    tie.close
+    (tie.spec enum-told constant-requires enum-known-neighbour moved-requires parameter-to-requires put-in-requires
+    and-requires returns returns-2)

@@ -33,7 +33,10 @@ and-requires : tie.Need-and-requires
 and-requires c κs = search needs
 
 returns-3 : tie.Need-returns-3
-returns-3 c forms h = form-both _ forms _ _ _ (c .before .before .before .before .before .if3 .taken) (c .and .ensures _ _ _ (c .before .before .before .before .before .before .before .before .before .pre .0) (c .before .before .before .row-of .ensures _ forms h) (c .before .row-of2 .ensures _ forms h))
+returns-3 c forms h =
+    form-both _ forms _ _ _ (c .before .before .before .before .before .if3 .taken)
+    (c .and .ensures _ _ _ (c .before .before .before .before .before .before .before .before .before .pre .0)
+    (c .before .before .before .row-of .ensures _ forms h) (c .before .row-of2 .ensures _ forms h))
 
 cast-row-of-3 : tie.Need-cast-row-of-3
 cast-row-of-3 c = search needs
@@ -51,13 +54,23 @@ xor-requires : tie.Need-xor-requires
 xor-requires c κs = search needs
 
 returns-4 : tie.Need-returns-4
-returns-4 c forms h = form-either _ forms _ _ _ (c .before .before .before .before .before .if4 .taken) (c .xor .ensures _ _ _ (c .before .before .before .before .before .before .before .before .before .before .pre .0) (c .before .before .before .row-of3 .ensures _ forms h) (c .before .row-of4 .ensures _ forms h))
+returns-4 c forms h =
+    form-either _ forms _ _ _ (c .before .before .before .before .before .if4 .taken)
+    (c .xor .ensures _ _ _
+    (c .before .before .before .before .before .before .before .before .before .before .pre .0)
+    (c .before .before .before .row-of3 .ensures _ forms h) (c .before .row-of4 .ensures _ forms h))
 
 parameter-requires : tie.Need-parameter-requires
 parameter-requires c κs = search needs
 
 returns-5 : tie.Need-returns-5
-returns-5 c forms h = form-own _ forms _ _ _ (c .before .before .before .before .if1 .left) (c .before .before .before .if2 .left) (c .before .before .if3 .left) (c .before .if4 .left) (c .parameter .ensures)
+returns-5 c forms h =
+    form-own _ forms _ _ _ (c .before .before .before .before .if1 .left) (c .before .before .before .if2 .left)
+    (c .before .before .if3 .left) (c .before .if4 .left) (c .parameter .ensures)
 
 pub form-row-spec : {M : Type 1} → statement M
-form-row-spec = tie.close (tie.spec constant-requires returns constant-requires-2 returns-2 cast-row-of row-of-requires cast-row-of-2 row-of-requires-2 and-requires returns-3 cast-row-of-3 row-of-requires-3 cast-row-of-4 row-of-requires-4 xor-requires returns-4 parameter-requires returns-5)
+form-row-spec =
+    tie.close
+    (tie.spec constant-requires returns constant-requires-2 returns-2 cast-row-of row-of-requires cast-row-of-2
+    row-of-requires-2 and-requires returns-3 cast-row-of-3 row-of-requires-3 cast-row-of-4 row-of-requires-4
+    xor-requires returns-4 parameter-requires returns-5)

@@ -15,7 +15,9 @@ enum-known-shift : tie.Need-enum-known-shift
 enum-known-shift c = search needs
 
 add-parameter : tie.Need-add-parameter
-add-parameter c = let near = near-to _ _ (c .before .shift .given .1) (c .before .before .before .pre .1) in search needs
+add-parameter c =
+    let near = near-to _ _ (c .before .shift .given .1) (c .before .before .before .pre .1) in
+    search needs
 
 parameter-requires : tie.Need-parameter-requires
 parameter-requires c κs = search needs
@@ -27,4 +29,6 @@ returns-2 : tie.Need-returns-2
 returns-2 c = parameter-to _ _ _ _ _ (c .before .before .shift .given .1) (c .parameter .ensures)
 
 pub parameter-to-spec : {M : Type 1} → statement M
-parameter-to-spec = tie.close (tie.spec enum-told constant-requires enum-known-shift add-parameter parameter-requires returns returns-2)
+parameter-to-spec =
+    tie.close
+    (tie.spec enum-told constant-requires enum-known-shift add-parameter parameter-requires returns returns-2)

@@ -15,7 +15,9 @@ enum-known-shift : tie.Need-enum-known-shift
 enum-known-shift c = search needs
 
 add-row-of : tie.Need-add-row-of
-add-row-of c = let near = near-to _ _ (c .before .shift .given .1) (c .before .before .before .before .pre .2) in search needs
+add-row-of c =
+    let near = near-to _ _ (c .before .shift .given .1) (c .before .before .before .before .pre .2) in
+    search needs
 
 row-of-requires : tie.Need-row-of-requires
 row-of-requires c κs = search needs
@@ -27,4 +29,5 @@ returns-2 : tie.Need-returns-2
 returns-2 c m rows h = row-to m _ _ _ rows _ (c .before .before .shift .given .1) (c .row-of .ensures m rows h)
 
 pub row-to-spec : {M : Type 1} → statement M
-row-to-spec = tie.close (tie.spec enum-told constant-requires enum-known-shift add-row-of row-of-requires returns returns-2)
+row-to-spec =
+    tie.close (tie.spec enum-told constant-requires enum-known-shift add-row-of row-of-requires returns returns-2)

@@ -26,11 +26,22 @@ only-put-requires : tie.Need-only-put-requires
 only-put-requires c κs = search needs
 
 returns : tie.Need-returns
-returns c forms derived past e h = previous-none (c .before .before .before .before .args .step) _ forms derived past (c .before .enum-told .given .1) (c .constant .ensures _)
+returns c forms derived past e h =
+    previous-none (c .before .before .before .before .args .step) _ forms derived past
+    (c .before .enum-told .given .1) (c .constant .ensures _)
 
 returns-2 : tie.Need-returns-2
 unfolding intervalIn put
-returns-2 c forms derived past e h = let step = c .before .before .before .before .before .before .before .args .step in let few = c .before .before .before .before .before .before .before .pre .few in previous-at step _ forms derived past _ _ (c .before .before .before .before .neighbour .given .1) (c .before .before .inside .ensures) (c .only-put .ensures (step .m) _ past few (c .before .put-in .ensures (step .m) _ derived few e (h .behind)) (h .front))
+returns-2 c forms derived past e h =
+    let step = c .before .before .before .before .before .before .before .args .step in
+    let few = c .before .before .before .before .before .before .before .pre .few in
+    previous-at step _ forms derived past _ _ (c .before .before .before .before .neighbour .given .1)
+    (c .before .before .inside .ensures)
+    (c .only-put .ensures (step .m) _ past few (c .before .put-in .ensures (step .m) _ derived few e (h .behind))
+    (h .front))
 
 pub previous-row-spec : {M : Type 1} → statement M
-previous-row-spec = tie.close (tie.spec enum-told constant-requires enum-known-neighbour inside-requires put-in-requires only-put-requires returns returns-2)
+previous-row-spec =
+    tie.close
+    (tie.spec enum-told constant-requires enum-known-neighbour inside-requires put-in-requires only-put-requires
+    returns returns-2)

@@ -32,11 +32,24 @@ and-requires : tie.Need-and-requires
 and-requires c κs = search needs
 
 returns : tie.Need-returns
-returns c forms derived past e h = earlier-none (c .before .before .before .before .args .step) _ forms derived past (c .before .enum-told .given .1) (c .constant .ensures _)
+returns c forms derived past e h =
+    earlier-none (c .before .before .before .before .args .step) _ forms derived past
+    (c .before .enum-told .given .1) (c .constant .ensures _)
 
 returns-2 : tie.Need-returns-2
 unfolding intervalIn put
-returns-2 c forms derived past e h = let step = c .before .before .before .before .before .before .before .before .before .args .step in let few = c .before .before .before .before .before .before .before .before .before .pre .0 .few in earlier-at step _ forms derived past _ _ (c .before .before .before .before .before .before .neighbour .given .1) (c .before .before .before .before .moved .ensures .0) (c .and .ensures (step .m) _ _ few (c .before .put-in2 .ensures (step .m) _ past few e (h .front)) (c .before .before .put-in .ensures (step .m) _ past few (c .before .before .before .row-to .ensures (step .m) derived (h .behind)) (h .front)))
+returns-2 c forms derived past e h =
+    let step = c .before .before .before .before .before .before .before .before .before .args .step in
+    let few = c .before .before .before .before .before .before .before .before .before .pre .0 .few in
+    earlier-at step _ forms derived past _ _
+    (c .before .before .before .before .before .before .neighbour .given .1)
+    (c .before .before .before .before .moved .ensures .0)
+    (c .and .ensures (step .m) _ _ few (c .before .put-in2 .ensures (step .m) _ past few e (h .front))
+    (c .before .before .put-in .ensures (step .m) _ past few
+    (c .before .before .before .row-to .ensures (step .m) derived (h .behind)) (h .front)))
 
 pub since-earlier-spec : {M : Type 1} → statement M
-since-earlier-spec = tie.close (tie.spec enum-told constant-requires enum-known-neighbour moved-requires row-to-requires put-in-requires put-in-requires-2 and-requires returns returns-2)
+since-earlier-spec =
+    tie.close
+    (tie.spec enum-told constant-requires enum-known-neighbour moved-requires row-to-requires put-in-requires
+    put-in-requires-2 and-requires returns returns-2)

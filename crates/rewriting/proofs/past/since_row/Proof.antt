@@ -20,7 +20,13 @@ or-requires c κs = search needs
 
 returns : tie.Need-returns
 unfolding intervalIn sinceOf
-returns c forms derived past el er h = let step = c .before .before .before .before .before .args .step in let few = c .before .before .before .before .before .pre .0 .few in c .or .ensures (step .m) _ _ few (test-same (step .m) _ _ _ _ (c .before .before .before .inside-now .ensures (step .here)) (c .before .before .only-put .ensures (step .m) _ past few er (h .front))) (c .before .since-earlier .ensures forms derived past el h)
+returns c forms derived past el er h =
+    let step = c .before .before .before .before .before .args .step in
+    let few = c .before .before .before .before .before .pre .0 .few in
+    c .or .ensures (step .m) _ _ few
+    (test-same (step .m) _ _ _ _ (c .before .before .before .inside-now .ensures (step .here))
+    (c .before .before .only-put .ensures (step .m) _ past few er (h .front)))
+    (c .before .since-earlier .ensures forms derived past el h)
 
 pub since-row-spec : {M : Type 1} → statement M
 since-row-spec = tie.close (tie.spec inside-now-requires only-put-requires since-earlier-requires or-requires returns)
