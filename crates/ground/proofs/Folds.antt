@@ -130,6 +130,13 @@ some-none n g p = fold-none _||_ false refl n g p
 pub some-at : (n : ℕ) (g : ℕ → Bool) (i : ℕ) → i < n → g i ≡ true → some n g ≡ true
 some-at n g i h p = fold-zero _||_ false true or-true (λ x. refl) n g i h p
 
+pub none-at : (n : ℕ) (g : ℕ → Bool) → some n g ≡ false → (i : ℕ) → i < n → g i ≡ false
+none-at n g p i h = go (g i) refl
+  where
+    go : (b : Bool) → g i ≡ b → g i ≡ false
+    go true q = absurd (true≢false (sym (some-at n g i h q) ∙ p))
+    go false q = q
+
 -- the one number at which a test is not false
 pub parity-one : (n : ℕ) (g : ℕ → Bool) (i : ℕ) → i < n → ((j : ℕ) → j < n → j ≢ i → g j ≡ false) → parity n g ≡ g i
 unfolding fold

@@ -6,7 +6,7 @@ use mathlib.Core.Bool.{and-true, true-and, and-false, and-assoc, or-true, or-fal
 use Prim.Native.Nat.{ℕ, suc, _+_, _-_, _≤_, _<_}
 use native.Mathlib.Omega.{arith}
 use Rattle.ground.specs.Fold.{fold, everyIn, someIn}
-use Rattle.ground.proofs.Folds.{fold-cong, fold-add, fold-both, every-all, every-not, every-at, some-none, some-at}
+use Rattle.ground.proofs.Folds.{fold-cong, fold-add, fold-both, every-all, every-at, some-none, some-at}
 
 -- for any operation; everyIn and someIn are two of these
 module _ {A : Type 0} (op : A → A → A) (e : A) where
@@ -90,13 +90,7 @@ module _ (a b : ℕ) (g : ℕ → Bool) where
   unfolding someIn
   someIn-last h = foldIn-last _||_ false a b g h
 
-  -- one number at which the test fails, or passes
-  pub everyIn-not : (i : ℕ) → a ≤ i → i < b → g i ≡ false → everyIn a b g ≡ false
-  unfolding everyIn
-  everyIn-not i h k p =
-      let q : a + (i - a) ≡ i = omega arith in
-      every-not (b - a) (λ n. g (a + n)) (i - a) (omega arith) (ap g q ∙ p)
-
+  -- one number at which the test passes
   pub someIn-at : (i : ℕ) → a ≤ i → i < b → g i ≡ true → someIn a b g ≡ true
   unfolding someIn
   someIn-at i h k p =

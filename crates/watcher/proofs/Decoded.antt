@@ -10,7 +10,7 @@ use lib.Dec.{eqb, leb, ltb}
 use lib.ListN.{length, List·getD-append}
 use borrow.Author.Tests.{ltb-true, ltb-false, leb-true, leb-false, eqb-true, eqb-false, eq-eqb, ne-eqb, not-false}
 use Rattle.ground.specs.Fold.{some}
-use Rattle.ground.proofs.Folds.{less-or-not, fold-cong, some-at}
+use Rattle.ground.proofs.Folds.{less-or-not, fold-cong, none-at}
 use Rattle.ground.proofs.Tabs.{length-tab, getD-tab, getD-tab-out, tab-cong}
 use Rattle.meaning.specs.Rule.{Node, fixed, signal, both, either, next, until, previous, since}
 use Rattle.meaning.specs.Rule.{nodeAt, Earlier, Ordered, parameters}
@@ -55,13 +55,6 @@ module _ (rule signals : List ℕ) where
   tests-fine a = rw (a .long, a .laid, a .apart, a .few, a .listed, a .named)
 
 -- tests that fail
-pub none-at : (n : ℕ) (g : ℕ → Bool) → some n g ≡ false → (i : ℕ) → i < n → g i ≡ false
-none-at n g e i h = go (g i) refl
-  where
-    go : (b : Bool) → g i ≡ b → g i ≡ false
-    go true q = absurd (false≢true (sym e ∙ some-at n g i h q))
-    go false q = q
-
 pub neither : (a b : Bool) → (a || b) ≡ false → (a ≡ false) × (b ≡ false)
 neither true b e = absurd (false≢true (sym e))
 neither false b e = (refl, e)
