@@ -46,9 +46,9 @@ pub enum Found {
 
 // The rule's bytes and its records, the signals' bytes and their count, zeros behind each, and the phase.
 pub struct Watcher {
-    pub rule: [u8; 128],
+    pub rule: [u8; Watcher::LIST_BYTES],
     pub records: usize,
-    pub list: [u8; 128],
+    pub list: [u8; Watcher::LIST_BYTES],
     pub signals: usize,
     pub phase: Phase,
 }
