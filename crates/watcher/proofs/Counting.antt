@@ -4,7 +4,7 @@ use mathlib.Core.Path.{_≡_, refl, ap, sym, _∙_}
 use mathlib.Core.Bool.{Bool, true, false, cond}
 use mathlib.Core.Logic.{_⊎_, inl, inr, ⊎-elim}
 use mathlib.Core.List.{List}
-use Prim.Native.Nat.{ℕ, zero, suc, _+_, _≤_, _<_}
+use Prim.Native.Nat.{ℕ, _+_, _≤_, _<_}
 use native.Mathlib.Nat.{le-antisymm}
 use native.Mathlib.Numerals.{add-one}
 use native.Mathlib.Omega.{arith}
@@ -16,6 +16,7 @@ use Rattle.watcher.specs.Limits.{mostParameters}
 use Rattle.watcher.specs.Rules.{manyParameters}
 use Rattle.rewriting.specs.Decode.{byteOf, intervalOf, nodeOf, nodeIn, ruleIn}
 use Rattle.watcher.specs.Rules.{recordsOf}
+use Rattle.rewriting.proofs.Nodes.{kind-quiet}
 use Rattle.watcher.proofs.Decoded.{length-ruleIn, node-in}
 
 -- shifts
@@ -38,14 +39,9 @@ module _ (left right low high : ℕ) where
   kind-one kind o = ⊎-elim (λ e. rw e) (⊎-elim (λ e. rw e) (λ e. rw e)) o
 
   kind-none : (kind : ℕ) → (One kind → ⊥) → 1 ≤ kind → kind < 6 → 0 ≡ count (nodeOf kind left right low high)
-  unfolding count nodeOf
-  kind-none zero n h l = let z : ⊥ = omega arith in absurd z
-  kind-none (suc zero) n h l = refl
-  kind-none (suc (suc zero)) n h l = refl
-  kind-none (suc (suc (suc zero))) n h l = absurd (n (inl refl))
-  kind-none (suc (suc (suc (suc zero)))) n h l = refl
-  kind-none (suc (suc (suc (suc (suc zero))))) n h l = refl
-  kind-none (suc (suc (suc (suc (suc (suc kind)))))) n h l = let z : ⊥ = omega arith in absurd z
+  unfolding count
+  kind-none kind n h l =
+      kind-quiet (λ d. 0 ≡ count d) left right low high refl refl refl refl kind h l (λ e. n (inl e))
 
   kind-shifts : (kind : ℕ) → (One kind → ⊥) → (1 ≤ kind → kind < 6 → ⊥)
       → shifts (intervalOf low high) ≡ count (nodeOf kind left right low high)
