@@ -1,8 +1,7 @@
 -- How a rule is rewritten (document 01, "How the rule is rewritten"; document 000, section 3.1).
-use mathlib.Core.Bool.{Bool, true, false, cond}
+use mathlib.Core.Bool.{Bool, false, cond}
 use mathlib.Core.List.{List, [], _∷_, _++_}
-use Prim.Native.Nat.{ℕ, zero, suc, _+_, _-_}
-use lib.ListN.{length, getD}
+use Prim.Native.Nat.{ℕ, zero, suc, _+_}
 use Rattle.ground.specs.Fold.{tab}
 use Rattle.forms.specs.Form.{Form, constant, parameter, xor, and, or, putIn}
 use Rattle.forms.specs.Area.{formIn}

@@ -1,5 +1,5 @@
 -- Rules, their parameters, and logs (document 01, "Lists on disk" and "How the rule is rewritten").
-use mathlib.Core.Bool.{Bool, true, false}
+use mathlib.Core.Bool.{Bool, true}
 use mathlib.Core.List.{List}
 use Prim.Native.Nat.{ℕ, zero, suc, _+_, _≤_, _<_}
 use lib.ListN.{length, getD}

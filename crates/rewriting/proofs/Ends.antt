@@ -6,7 +6,7 @@ use Prim.Native.Nat.{ℕ, _+_, _-_, _≤_, _<_, min}
 use native.Mathlib.Omega.{arith}
 use borrow.Author.Tests.{leb-true, leb-false, le-leb, lt-leb, eq-eqb, ne-eqb}
 use lib.Dec.{eqb, leb}
-use Rattle.meaning.specs.Interval.{Interval, between, onward, distance, inside, shifted, gone, to, moved}
+use Rattle.meaning.specs.Interval.{between, onward, distance, inside, shifted, gone, to, moved}
 use Rattle.meaning.proofs.Intervals.{distance-same}
 use Rattle.rewriting.specs.Decode.{intervalOf}
 

@@ -11,7 +11,7 @@ use Rattle.ground.specs.Bits.{bit}
 use Rattle.forms.specs.Form.{Form, constant, parameter}
 use Rattle.forms.specs.Words.{pack}
 use Rattle.forms.specs.Area.{formIn}
-use Rattle.meaning.specs.Rule.{Node, fixed, signal, both, either, next, until, previous, since, holds}
+use Rattle.meaning.specs.Rule.{Node, fixed, both, either, next, until, previous, since, holds}
 use Rattle.meaning.specs.Rewriting.{put, nextRow, derivedRow, pastRow}
 use Rattle.rewriting.specs.declared.step.Record.{Record}
 use Rattle.rewriting.specs.declared.step.Step.{Step}
