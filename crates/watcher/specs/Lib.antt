@@ -1,8 +1,8 @@
 pub mod Limits
-pub mod Numbers
 pub mod Rules
 pub mod Signals
 pub mod Records
 pub mod Speed
 pub mod Lists
+pub mod Numbers
 pub mod Examples
