@@ -3,7 +3,7 @@ use mathlib.Core.Bool.{Bool, true, false}
 use mathlib.Core.List.{List, [], _∷_}
 use Prim.Native.Nat.{ℕ, _-_}
 use lib.ListN.{length}
-use Rattle.forms.specs.Form.{Form}
+use Rattle.forms.specs.Form.{Form, constant, same}
 use Rattle.forms.specs.Area.{formIn}
 use Rattle.forms.specs.Rows.{whichConstant}
 use Rattle.forms.specs.declared.rows.Truth.{Truth}
@@ -23,8 +23,11 @@ module _ (m : ℕ) (rule : List Node) where
   start = formIn m (formsOf m rule (length rule)) (length rule - 1)
 
   -- record 1 leaves the remainder, and makes its past rows
+  abbrev pub leave : Form m → Entry → Known m
+  leave f e = record { past = pastRows m rule [] e none (length rule); remainder = f; last = e }
+
   unfoldable pub first : Entry → Known m
-  first e = record { past = pastRows m rule [] e none (length rule); remainder = start; last = e }
+  first e = leave start e
 
   -- a later record puts the derived rows of the one before into the remainder, then makes its past rows
   unfoldable pub feed : Known m → Entry → Known m
@@ -39,6 +42,10 @@ module _ (m : ℕ) (rule : List Node) where
   -- closing derives the last record at the end
   unfoldable pub close : Known m → Form m
   close s = put m (s .remainder) (derivedRows m rule (s .past) (s .last) none (length rule))
+
+  -- the value were this the last record: closing leaves true, or false
+  unfoldable pub valueIfLast : Known m → Bool
+  valueIfLast s = same m (close s) (constant m true)
 
   -- fed record after record
   unfoldable pub fed : Known m → List Entry → Known m

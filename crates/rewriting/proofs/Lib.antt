@@ -3,3 +3,5 @@ pub mod Shifts
 pub mod Neighbours
 pub mod Nodes
 pub mod RecordForms
+pub mod Rules
+pub mod Counting

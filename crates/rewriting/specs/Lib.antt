@@ -1,2 +1,4 @@
 pub mod Decode
+pub mod Known
+pub mod Plans
 pub mod Steps

@@ -4,4 +4,5 @@ mod form;
 mod interval;
 mod parts;
 mod past;
+pub mod rule;
 pub mod step;

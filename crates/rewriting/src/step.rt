@@ -25,3 +25,16 @@ pub struct Step {
     pub signals: u16,
     pub neighbour: Neighbour,
 }
+
+// How many records the rule has, how many parameters m, and how many places the area has for past rows.
+pub struct Plan {
+    pub records: usize,
+    pub m: usize,
+    pub places: usize,
+}
+
+// A record of the log as the rule sees it: its time, and the signals that hold in it as bits.
+pub struct Moment {
+    pub time: u32,
+    pub signals: u16,
+}

@@ -24,6 +24,8 @@ use Rattle.watcher.specs.Rules.{byteBreaks, recordBreaks, ruleBreaks, ha
 use Rattle.watcher.specs.Signals.{wrongSignals, namesMissing}
 use Rattle.watcher.specs.Lists.{firstRefusal, listTests, listsRefusal}
 use Rattle.watcher.specs.Rules.{manyParameters}
+use Rattle.watcher.specs.Limits.{mostParameters}
+use Rattle.rewriting.proofs.Rules.{length-ruleIn, node-in, node-past}
 
 -- each test of the lists fails
 pub record Accepted (rule signals : List ℕ) : Type 0 where
@@ -168,26 +170,14 @@ node-fine list k c a named =
 
 -- the rule in the first n records of a list
 module _ (list : List ℕ) (n : ℕ) where
-  pub length-ruleIn : length (ruleIn list n) ≡ n
-  unfolding ruleIn
-  length-ruleIn = length-tab n (nodeIn list)
-
-  pub node-in : (k : ℕ) → k < n → nodeAt (ruleIn list n) k ≡ nodeIn list k
-  unfolding ruleIn nodeAt
-  node-in k h = getD-tab n (nodeIn list) k (fixed true) h
-
-  pub node-past : (k : ℕ) → n ≤ k → nodeAt (ruleIn list n) k ≡ fixed true
-  unfolding ruleIn nodeAt
-  node-past k h = getD-tab-out n (nodeIn list) k (fixed true) h
-
   module _ (laid : (k : ℕ) → k < n → recordBreaks list k ≡ false) where
     nodes-fine : (c : ℕ) → ((k : ℕ) → k < n → byteOf list k 0 ≡ 3 → byteOf list k 1 < c) → (k : ℕ)
         → Earlier k (nodeAt (ruleIn list n) k) × Names c (nodeAt (ruleIn list n) k)
     unfolding Earlier
     nodes-fine c named k =
         ⊎-elim
-        (λ l. rw (node-in k l) (node-fine list k c (record-fine list k (laid k l)) (named k l)))
-        (λ l. rw (node-past k l) (tt, tt)) (less-or-not k n)
+        (λ l. rw (node-in list n k l) (node-fine list k c (record-fine list k (laid k l)) (named k l)))
+        (λ l. rw (node-past list n k l) (tt, tt)) (less-or-not k n)
 
     -- left and right name earlier records
     pub ruleIn-ordered : Ordered (ruleIn list n)
@@ -266,3 +256,9 @@ module _ (rule signals : List ℕ) (fine : Accepted rule signals) where
 
       below : s < recordsOf signals
       below = ruleIn-signals rule (recordsOf rule) accepted-laid (recordsOf signals) named k s e
+
+-- whether a rule has more parameters than it may, counted
+pub parameters-all : (list : List ℕ) (n p : ℕ) → n ≡ recordsOf list → p ≡ parameters (ruleIn list n)
+    → ltb mostParameters p ≡ manyParameters list
+unfolding manyParameters
+parameters-all list n p e q = rw (q, e)

@@ -5,6 +5,5 @@ pub mod Channels
 pub mod Speed
 pub mod Decoded
 pub mod Checking
-pub mod Counting
 pub mod Refusing
 pub mod Examples

@@ -5,4 +5,6 @@ pub mod Records
 pub mod Speed
 pub mod Lists
 pub mod Numbers
+pub mod State
+pub mod Calls
 pub mod Examples

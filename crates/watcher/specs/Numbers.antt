@@ -2,6 +2,7 @@
 use Prim.Native.Nat.{ℕ}
 use mathlib.Core.Bool.{Bool, true, false}
 use Rattle.meaning.specs.Rule.{Entry}
+use Rattle.meaning.specs.Horizon.{Horizon, within, never}
 use Rattle.meaning.specs.Words as words
 use Rattle.watcher.specs.declared.state.Word.{Word}
 use Rattle.watcher.specs.declared.state.Word.the-variants as word
@@ -9,6 +10,8 @@ use Rattle.watcher.specs.declared.state.Phase.{Phase}
 use Rattle.watcher.specs.declared.state.Phase.the-variants as phase
 use Rattle.watcher.specs.declared.state.Verdict.{Verdict}
 use Rattle.watcher.specs.declared.state.Verdict.the-variants as verdict
+use Rattle.watcher.specs.declared.state.Wait.{Wait}
+use Rattle.watcher.specs.declared.state.Wait.the-variants as wait
 use Rattle.watcher.specs.declared.state.Refusal.{Refusal}
 use Rattle.watcher.specs.declared.state.Refusal.the-variants.{RuleLength, RuleRecord, RuleTwins, RuleParameters}
 use Rattle.watcher.specs.declared.state.Refusal.the-variants.{SignalList, SignalMissing}
@@ -21,10 +24,26 @@ wordOf word.Kept = words.kept
 wordOf word.Broken = words.broken
 wordOf word.Pending = words.pending
 
+-- the word that says so
+unfoldable pub saying : words.Word → Word
+saying words.kept = word.Kept
+saying words.broken = word.Broken
+saying words.pending = word.Pending
+
 -- the value that a verdict says the log has
 unfoldable pub verdictValue : Verdict → Bool
 verdictValue verdict.Kept = true
 verdictValue verdict.Broken = false
+
+-- the verdict that says so
+unfoldable pub verdictFor : Bool → Verdict
+verdictFor true = verdict.Kept
+verdictFor false = verdict.Broken
+
+-- the horizon that an answer gives
+unfoldable pub horizonFor : Wait → Horizon
+horizonFor wait.Forever = never
+horizonFor (wait.Minutes h) = within h
 
 -- what a phase says of the log: nothing fed, its last record, or its value at the end
 pub data Stage : Type 0 where

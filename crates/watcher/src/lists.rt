@@ -2,17 +2,14 @@
 ghost use mathlib.Core.Path.{_≡_};
 ghost use Prim.Native.Nat.{_<_, _≤_};
 ghost use lib.ListN.{length};
-ghost use Rattle.meaning.specs.Interval.{shifts};
-ghost use Rattle.meaning.specs.Rule.{count, parameters};
 ghost use Rattle.rewriting.specs.Decode.{recordBytes};
 ghost use Rattle.watcher.specs.Limits.{mostRecords, listBytes};
-ghost use Rattle.rewriting.specs.Decode.{byteOf};
 ghost use Rattle.watcher.specs.Rules.{recordsOf, wrongLength, uses, fairLimits, usedRight, byteBreaks};
 ghost use Rattle.watcher.specs.Rules.{recordBreaks, ruleBreaks, sameRecord, hasTwins};
-ghost use Rattle.rewriting.specs.Decode.{intervalOf, nodeIn, ruleIn};
 ghost use Rattle.watcher.specs.Rules.{manyParameters};
 use crate::state::Watcher;
-use ground::bytes;
+use rewriting::rule::byte_of;
+use rewriting::rule::parameters_in;
 
 // Kinds 0, which is none, to 9.
 const KINDS: usize = 10;
@@ -44,14 +41,6 @@ pub(crate) fn uses(kind: usize, i: usize) -> bool
     } else {
         false
     }
-}
-
-// Byte `i` of record `k`.
-pub(crate) fn byte_of(list: &[u8], k: usize, i: usize) -> u8
-    requires { ⌜ (k < mostRecords) × (i < recordBytes) ⌝ }
-    ensures { λ r. ⌜ r ≡ byteOf (now (list .entry)) k i ⌝ }
-{
-    bytes::byte(list, Watcher::RECORD_BYTES * k + i)
 }
 
 // How many records a list has.
@@ -174,42 +163,6 @@ pub(crate) fn has_twins(list: &[u8]) -> bool
         }
     }
     found
-}
-
-// How many shifts an interval has: 0 to `high`, or to `low` with no upper end.
-pub(crate) fn shifts_of(low: u8, high: u8) -> usize
-    ensures { λ r. ⌜ (r ≡ shifts (intervalOf low high)) × (r ≤ 256) ⌝ }
-{
-    if high == 255 {
-        low as usize + 1
-    } else {
-        high as usize + 1
-    }
-}
-
-// How many parameters record `k` has.
-pub(crate) fn count_at(list: &[u8], k: usize) -> usize
-    requires { ⌜ k < mostRecords ⌝ }
-    ensures { λ r. ⌜ (r ≡ count (nodeIn (now (list .entry)) k)) × (r ≤ 256) ⌝ }
-{
-    let kind = byte_of(list, k, 0);
-    match kind {
-        1 | 2 | 4 | 5 => 0,
-        3 | 6 | 8 => 1,
-        _ => shifts_of(byte_of(list, k, 4), byte_of(list, k, 5)),
-    }
-}
-
-// How many parameters the first `n` records have.
-pub(crate) fn parameters_in(list: &[u8], n: usize) -> usize
-    requires { ⌜ n ≤ mostRecords ⌝ }
-    ensures { λ r. ⌜ r ≡ parameters (ruleIn (now (list .entry)) n) ⌝ }
-{
-    let mut sum = 0;
-    for k in 0..n {
-        sum += count_at(list, k);
-    }
-    sum
 }
 
 // Whether the rule has more parameters than it may.

@@ -44,6 +44,29 @@ pub enum Found {
     Refused(Refusal),
 }
 
+// What an accepted record is told: the word.
+pub struct Report {
+    pub word: Word,
+}
+
+// The answer to a record that is fed.
+pub enum Answer {
+    Accepted(Report),
+    Refused(Refusal),
+}
+
+// The answer to closing.
+pub enum End {
+    Closed(Verdict),
+    Refused(Refusal),
+}
+
+// How long a rule can stay open, in minutes; it may have no such limit.
+pub enum Wait {
+    Forever,
+    Minutes(usize),
+}
+
 // The rule's bytes and its records, the signals' bytes and their count, zeros behind each, and the phase.
 pub struct Watcher {
     pub rule: [u8; Watcher::LIST_BYTES],
@@ -51,6 +74,24 @@ pub struct Watcher {
     pub list: [u8; Watcher::LIST_BYTES],
     pub signals: usize,
     pub phase: Phase,
+}
+
+// What start hands back: what it found, and the state.
+pub struct Started {
+    pub found: Found,
+    pub next: Watcher,
+}
+
+// What feeding a record hands back: the answer, and the next state.
+pub struct Fed {
+    pub answer: Answer,
+    pub next: Watcher,
+}
+
+// What closing hands back: the answer, and the next state.
+pub struct Ended {
+    pub answer: End,
+    pub next: Watcher,
 }
 
 // The limits of the watcher, as numbers.

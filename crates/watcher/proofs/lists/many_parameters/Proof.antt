@@ -1,7 +1,8 @@
 -- `lists::many_parameters` meets its contract: the rule has as many records as the list.
 -- Assumes nothing.
+use native.Mathlib.Omega.{arith}
 use borrow.Author.Needs.{needs}
-use Rattle.watcher.proofs.Counting.{parameters-all}
+use Rattle.watcher.proofs.Decoded.{parameters-all}
 use Rattle.watcher.proofs.Checking.{records-few}
 use Rattle.watcher.proofs.lists.many_parameters.Statement.{statement}
 use Rattle.watcher.proofs.lists.many_parameters.Tie as tie
@@ -10,7 +11,7 @@ records-of-requires : tie.Need-records-of-requires
 records-of-requires c κs = search needs
 
 parameters-in-requires : tie.Need-parameters-in-requires
-parameters-in-requires c κs = records-few _ _ (c .records-of .ensures) (c .before .before .pre)
+parameters-in-requires c κs = omega (arith, records-few _ _ (c .records-of .ensures) (c .before .before .pre))
 
 returns : tie.Need-returns
 returns c = parameters-all _ _ _ (c .before .records-of .ensures) (c .parameters-in .ensures)

@@ -1,11 +1,11 @@
--- `lists::count_at` meets its contract: one law for each group of kinds.
+-- `rule::count_at` meets its contract: one law for each group of kinds.
 -- Assumes nothing.
 use mathlib.Core.Logic.{⊎-elim}
 use native.Mathlib.Omega.{arith}
 use borrow.Author.Needs.{needs}
-use Rattle.watcher.proofs.Counting.{count-one, count-none, count-shifts}
-use Rattle.watcher.proofs.lists.count_at.Statement.{statement}
-use Rattle.watcher.proofs.lists.count_at.Tie as tie
+use Rattle.rewriting.proofs.Counting.{count-one, count-none, count-shifts}
+use Rattle.rewriting.proofs.rule.count_at.Statement.{statement}
+use Rattle.rewriting.proofs.rule.count_at.Tie as tie
 
 byte-of-requires : tie.Need-byte-of-requires
 byte-of-requires c κs = search needs

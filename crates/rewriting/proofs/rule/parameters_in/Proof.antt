@@ -1,14 +1,14 @@
--- `lists::parameters_in` meets its contract: the sum is where the parameters of record `k` begin.
+-- `rule::parameters_in` meets its contract: the sum is where the parameters of record `k` begin.
 -- Assumes nothing.
 use mathlib.Core.Path.{_≡_}
 use Prim.Native.Nat.{_-_, _*_, _≤_}
 use native.Mathlib.Omega.{arith}
 use borrow.Author.Needs.{needs}
 use Rattle.meaning.specs.Rule.{firstOf}
 use Rattle.rewriting.specs.Decode.{ruleIn}
-use Rattle.watcher.proofs.Counting.{firstOf-rule, parameters-done}
-use Rattle.watcher.proofs.lists.parameters_in.Statement.{statement}
-use Rattle.watcher.proofs.lists.parameters_in.Tie as tie
+use Rattle.rewriting.proofs.Counting.{firstOf-rule, parameters-done}
+use Rattle.rewriting.proofs.rule.parameters_in.Statement.{statement}
+use Rattle.rewriting.proofs.rule.parameters_in.Tie as tie
 
 abbrev Inv-loop : tie.InvT-loop
 Inv-loop list n sum₀ k₀ sum k = (k ≤ n) × (sum ≡ firstOf (ruleIn list n) k) × (sum ≤ 256 * k)

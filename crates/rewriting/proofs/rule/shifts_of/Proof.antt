@@ -1,9 +1,9 @@
--- `lists::shifts_of` meets its contract: with an upper end, and with none.
+-- `rule::shifts_of` meets its contract: with an upper end, and with none.
 -- Assumes nothing.
 use borrow.Author.Needs.{needs}
-use Rattle.watcher.proofs.Counting.{shifts-onward, shifts-between}
-use Rattle.watcher.proofs.lists.shifts_of.Statement.{statement}
-use Rattle.watcher.proofs.lists.shifts_of.Tie as tie
+use Rattle.rewriting.proofs.Counting.{shifts-onward, shifts-between}
+use Rattle.rewriting.proofs.rule.shifts_of.Statement.{statement}
+use Rattle.rewriting.proofs.rule.shifts_of.Tie as tie
 
 add-result : tie.Need-add-result
 add-result c = search needs

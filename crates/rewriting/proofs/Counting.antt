@@ -9,15 +9,12 @@ use native.Mathlib.Nat.{le-antisymm}
 use native.Mathlib.Numerals.{add-one}
 use native.Mathlib.Omega.{arith}
 use borrow.Author.Tests.{eq-eqb, ne-eqb}
-use lib.Dec.{eqb, ltb}
+use lib.Dec.{eqb}
 use Rattle.meaning.specs.Interval.{shifts}
 use Rattle.meaning.specs.Rule.{until, since, count, firstOf, parameters}
-use Rattle.watcher.specs.Limits.{mostParameters}
-use Rattle.watcher.specs.Rules.{manyParameters}
 use Rattle.rewriting.specs.Decode.{byteOf, intervalOf, nodeOf, nodeIn, ruleIn}
-use Rattle.watcher.specs.Rules.{recordsOf}
 use Rattle.rewriting.proofs.Nodes.{kind-quiet}
-use Rattle.watcher.proofs.Decoded.{length-ruleIn, node-in}
+use Rattle.rewriting.proofs.Rules.{length-ruleIn, node-in}
 
 -- shifts
 pub shifts-onward : (low high : ℕ) → high ≡ 255 → low + 1 ≡ shifts (intervalOf low high)
@@ -88,8 +85,3 @@ pub parameters-done : (list : List ℕ) (n k sum : ℕ) → sum ≡ firstOf (rul
     → sum ≡ parameters (ruleIn list n)
 unfolding parameters
 parameters-done list n k sum e h l = e ∙ ap (firstOf (ruleIn list n)) (le-antisymm h l ∙ sym (length-ruleIn list n))
-
-pub parameters-all : (list : List ℕ) (n p : ℕ) → n ≡ recordsOf list → p ≡ parameters (ruleIn list n)
-    → ltb mostParameters p ≡ manyParameters list
-unfolding manyParameters
-parameters-all list n p e q = rw (q, e)

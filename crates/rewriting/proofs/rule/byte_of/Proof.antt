@@ -1,9 +1,9 @@
--- `lists::byte_of` meets its contract: the byte at its place, zero past the end.
+-- `rule::byte_of` meets its contract: the byte at its place, zero past the end.
 -- Assumes nothing.
 use borrow.Author.Needs.{needs}
 use Rattle.rewriting.specs.Decode.{byteOf}
-use Rattle.watcher.proofs.lists.byte_of.Statement.{statement}
-use Rattle.watcher.proofs.lists.byte_of.Tie as tie
+use Rattle.rewriting.proofs.rule.byte_of.Statement.{statement}
+use Rattle.rewriting.proofs.rule.byte_of.Tie as tie
 
 mul-byte : tie.Need-mul-byte
 mul-byte c = search needs

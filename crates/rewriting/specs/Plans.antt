@@ -1,0 +1,40 @@
+-- What the rewriting on a work area is made from, and what it asks for.
+use mathlib.Core.Path.{_≡_}
+use mathlib.Core.List.{List}
+use Prim.Native.Nat.{ℕ, _≤_, _<_}
+use Rattle.forms.specs.Area.{Holds}
+use Rattle.meaning.specs.Rule.{Node, Entry, parameters}
+use Rattle.meaning.specs.Rewriting.{formsOf}
+use Rattle.meaning.specs.Words.{Known}
+use Rattle.rewriting.specs.Decode.{byteOf, ruleIn}
+use Rattle.rewriting.specs.Known.{areaOf, knownIn}
+use Rattle.rewriting.specs.declared.step.Plan.{Plan}
+use Rattle.rewriting.specs.declared.step.Moment.{Moment}
+
+-- the rule that a plan's records hold, and a record of the log
+abbrev pub ruleFor : List ℕ → Plan → List Node
+ruleFor list plan = ruleIn list (plan .records)
+
+abbrev pub entryFor : Moment → Entry
+entryFor moment = record { time = moment .time; signals = moment .signals }
+
+-- what is known, read from the area, and put into it
+abbrev pub readIn : (plan : Plan) → List ℕ → Moment → Known (plan .m)
+readIn plan ws last = knownIn (plan .places) (plan .m) ws (entryFor last)
+
+abbrev pub areaWith : (plan : Plan) → Known (plan .m) → List ℕ
+areaWith plan s = areaOf (plan .places) (plan .m) (s .past) (s .remainder)
+
+-- every record has a kind, m counts the rule's parameters, and they have places among the twelve of a row
+pub record Sound (list : List ℕ) (plan : Plan) : Type 0 where
+  pub some : 0 < plan .records
+  pub most : plan .records ≤ 64
+  pub kinds : (k : ℕ) → k < plan .records → 1 ≤ byteOf list k 0
+  pub own : plan .m ≡ parameters (ruleIn list (plan .records))
+  pub few : plan .m ≤ plan .places
+  pub room : plan .places ≤ 12
+
+-- the table holds the forms of the rule's records
+abbrev pub HoldsForms : List ℕ → Plan → List ℕ → Type 0
+HoldsForms list plan table =
+    Holds (plan .m) table 0 (plan .records) (formsOf (plan .m) (ruleFor list plan) (plan .records))
