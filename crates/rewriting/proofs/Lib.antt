@@ -5,3 +5,4 @@ pub mod Nodes
 pub mod RecordForms
 pub mod Rules
 pub mod Counting
+pub mod Placed

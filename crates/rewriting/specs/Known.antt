@@ -2,15 +2,15 @@
 -- remainder, then as much scratch again.
 use mathlib.Core.Path.{_≡_}
 use mathlib.Core.Bool.{true, cond}
-use mathlib.Core.List.{List, []}
-use Prim.Native.Nat.{ℕ, _+_, _*_, _/_, _%_, _≤_, _<_}
+use mathlib.Core.List.{List}
+use Prim.Native.Nat.{ℕ, _+_, _*_, _/_, _%_, _^_, _≤_, _<_}
 use lib.Dec.{eqb, ltb}
 use lib.ListN.{length, getD, replicate}
 use Rattle.ground.specs.Fold.{tab}
 use Rattle.forms.specs.Form.{Form}
 use Rattle.forms.specs.Words.{pack, unpack, fits}
 use Rattle.forms.specs.Area.{rowAt, formIn}
-use Rattle.meaning.specs.Rule.{Node, Entry, parameters}
+use Rattle.meaning.specs.Rule.{Entry}
 use Rattle.meaning.specs.Words.{Known}
 
 -- words of an area with so many places for past rows
@@ -38,9 +38,10 @@ unfoldable pub areaOf : (places m : ℕ) → List (Form m) → Form m → List �
 areaOf places m past remainder =
     tab (wordsFor places) (λ k. getD (rowFor places m past remainder (k / 64)) (k % 64) 0)
 
--- the area has its words, no past row and no remainder has a bit at or above 2^m, and unused rows are zero
+-- the area has its words of 64 bits, no past row and no remainder has a bit at or above 2^m, and unused rows are zero
 pub record Tidy (places m : ℕ) (ws : List ℕ) : Type 0 where
   pub long : length ws ≡ wordsFor places
+  pub small : (i : ℕ) → getD ws i 0 < 2 ^ 64
   pub past : (j : ℕ) → j < m → fits m (rowAt ws j) ≡ true
   pub unused : (j : ℕ) → m ≤ j → j < places → rowAt ws j ≡ replicate 64 0
   pub remainder : fits m (rowAt ws places) ≡ true
