@@ -29,7 +29,8 @@ module _ (m : ℕ) where
   or-nothing b f v e =
       constant-is m (or m (onlyIf m b f) (constant m false)) (b && v)
       (λ ρ.
-      value-or m (onlyIf m b f) (constant m false) ρ ∙ ap (λ x. value m (onlyIf m b f) ρ || x) (value-constant m false ρ)
+      value-or m (onlyIf m b f) (constant m false) ρ
+      ∙ ap (λ x. value m (onlyIf m b f) ρ || x) (value-constant m false ρ)
       ∙ or-false (value m (onlyIf m b f) ρ) ∙ go b ρ)
     where
       go : (b : Bool) (ρ : ℕ → Bool) → value m (onlyIf m b f) ρ ≡ (b && v)

@@ -1,5 +1,6 @@
 // One record's rewriting on a lent area: a row by kind, and the loops over a rule's records.
 mod derived;
+pub mod ending;
 mod form;
 mod interval;
 mod parts;
