@@ -8,3 +8,4 @@ pub mod Counting
 pub mod Placed
 pub mod Endings
 pub mod Lasting
+pub mod Laid

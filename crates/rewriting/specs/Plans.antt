@@ -1,11 +1,12 @@
 -- What the rewriting on a work area is made from, and what it asks for.
 use mathlib.Core.Path.{_≡_}
+use mathlib.Core.Bool.{Bool}
 use mathlib.Core.List.{List}
 use Prim.Native.Nat.{ℕ, _≤_, _<_}
 use Rattle.forms.specs.Area.{Holds}
 use Rattle.meaning.specs.Rule.{Node, Entry, parameters}
 use Rattle.meaning.specs.Rewriting.{formsOf}
-use Rattle.meaning.specs.Words.{Known}
+use Rattle.meaning.specs.Words.{Known, close, valueIfLast}
 use Rattle.rewriting.specs.Decode.{byteOf, ruleIn}
 use Rattle.rewriting.specs.Known.{areaOf, knownIn}
 use Rattle.rewriting.specs.declared.step.Plan.{Plan}
@@ -38,3 +39,10 @@ pub record Sound (list : List ℕ) (plan : Plan) : Type 0 where
 abbrev pub HoldsForms : List ℕ → Plan → List ℕ → Type 0
 HoldsForms list plan table =
     Holds (plan .m) table 0 (plan .records) (formsOf (plan .m) (ruleFor list plan) (plan .records))
+
+-- closing: the value were this the last record, and the area where the past rows stay and the remainder is closed
+unfoldable pub closedWith : (plan : Plan) → List Node → Known (plan .m) → Bool × List ℕ
+closedWith plan rule s = (
+  valueIfLast (plan .m) rule s,
+  areaOf (plan .places) (plan .m) (s .past) (close (plan .m) rule s),
+)

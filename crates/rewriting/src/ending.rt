@@ -8,16 +8,21 @@ use crate::step::Moment;
 use crate::step::Neighbour;
 use crate::step::Plan;
 use crate::step::Step;
+use forms::area::clear;
 use forms::area::load;
+use forms::area::store;
+use forms::rows::constant;
 use forms::table::value;
 ghost use mathlib.Core.Path.{_≡_};
 ghost use mathlib.Core.Bool.{_&&_, _||_};
+ghost use mathlib.Core.List.{[]};
 ghost use Prim.Native.Nat.{ℕ, _+_, _≤_, _<_};
 ghost use lib.Dec.{eqb};
+ghost use lib.ListN.{length};
 ghost use Rattle.ground.specs.Bits.{bit};
-ghost use Rattle.meaning.specs.Words.{valueIfLast};
-ghost use Rattle.rewriting.specs.Known.{Tidy};
-ghost use Rattle.rewriting.specs.Plans.{ruleFor, readIn, Sound, HoldsForms};
+ghost use Rattle.meaning.specs.Words.{start, valueIfLast};
+ghost use Rattle.rewriting.specs.Known.{wordsFor, areaOf, Tidy};
+ghost use Rattle.rewriting.specs.Plans.{ruleFor, readIn, Sound, HoldsForms, closedWith};
 ghost use Rattle.rewriting.specs.Steps.{Fair};
 ghost use Rattle.rewriting.specs.Endings.{Settled, lastRows, OfEnd, OfEnds};
 
@@ -104,4 +109,29 @@ pub fn value_if_last(list: &[u8], plan: Plan, last: Moment, forms: &[u64], area:
 {
     let setting = last_setting(list, plan, last, forms, area);
     value(load(area, plan.places), setting)
+}
+
+// Closing: the past rows stay, and the remainder is the constant.
+pub fn close(list: &[u8], plan: Plan, last: Moment, forms: &[u64], area: &mut [u64]) -> bool
+    requires { ⌜ Sound (now list) plan × HoldsForms (now list) plan (now forms) × Tidy (plan .places) (plan .m) (now area) ⌝ }
+    ensures { λ r. ⌜ (r, now (area .exit)) ≡ closedWith plan (ruleFor (now (list .entry)) plan) (readIn plan (now (area .entry)) last) ⌝ }
+{
+    let b = value_if_last(list, plan, last, forms, area);
+    store(area, plan.places, constant(b));
+    clear(area, plan.places + 1, plan.places + 1);
+    b
+}
+
+// The area at start: past rows zero, the remainder is the rule's form.
+pub fn begin(list: &[u8], plan: Plan, forms: &[u64], area: &mut [u64])
+    requires { ⌜ Sound (now list) plan × HoldsForms (now list) plan (now forms) × (length (now area) ≡ wordsFor (plan .places)) ⌝ }
+    ensures { λ _. ⌜ now (area .exit) ≡ areaOf (plan .places) (plan .m) [] (start (plan .m) (ruleFor (now (list .entry)) plan)) ⌝ }
+{
+    clear(area, 0, plan.places);
+    store(
+        area,
+        plan.places,
+        row_of(forms, 0, plan.records, plan.records - 1),
+    );
+    clear(area, plan.places + 1, plan.places + 1);
 }
