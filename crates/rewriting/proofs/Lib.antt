@@ -6,3 +6,5 @@ pub mod RecordForms
 pub mod Rules
 pub mod Counting
 pub mod Placed
+pub mod Written
+pub mod Tables

@@ -2,3 +2,4 @@ pub mod Decode
 pub mod Known
 pub mod Plans
 pub mod Steps
+pub mod Walks

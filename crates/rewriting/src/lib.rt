@@ -6,3 +6,4 @@ mod parts;
 mod past;
 pub mod rule;
 pub mod step;
+pub mod walk;
