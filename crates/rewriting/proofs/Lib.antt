@@ -8,3 +8,4 @@ pub mod Counting
 pub mod Placed
 pub mod Written
 pub mod Tables
+pub mod Walking

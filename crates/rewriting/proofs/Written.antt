@@ -3,15 +3,15 @@
 use mathlib.Core.Path.{_≡_, sym, ap, ap₂, _∙_}
 use mathlib.Core.Logic.{_⊎_, inl, inr, ⊎-elim}
 use mathlib.Core.List.{List}
-use Prim.Native.Nat.{ℕ, _+_, _*_, _≤_, _<_}
-use native.Mathlib.Nat.{le-antisymm}
+use Prim.Native.Nat.{ℕ, zero, suc, _+_, _*_, _≤_, _<_}
+use native.Mathlib.Nat.{le-antisymm, add-zero, add-suc}
 use native.Mathlib.Numerals.{add-one}
 use native.Mathlib.Omega.{arith}
 use lib.ListN.{length}
 use Rattle.forms.specs.Form.{Form}
 use Rattle.forms.specs.Area.{rowAt, putRows, formIn, Holds}
 use Rattle.forms.proofs.Packing.{pack-words}
-use Rattle.forms.proofs.Areas.{row-put, row-kept, putRows-none, putRows-more}
+use Rattle.forms.proofs.Areas.{row-put, row-kept, putRows-none, putRows-more, putRows-cong}
 use Rattle.rewriting.specs.Walks.{formRow}
 
 module _ (ws : List ℕ) (base : ℕ) (g : ℕ → List ℕ) where
@@ -26,6 +26,24 @@ module _ (ws : List ℕ) (base : ℕ) (g : ℕ → List ℕ) where
       ∙ ap (λ (x : List ℕ). putRows (putRows ws base n g) (base + n) 1 (λ _. x)) r
       ∙ putRows-more ws base n g
       ∙ ap (λ x. putRows ws base x g) (sym (add-one n))
+
+  joined : (a n : ℕ) → putRows (putRows ws base a g) (base + a) n (λ i. g (a + i)) ≡ putRows ws base (a + n) g
+  joined a zero =
+      putRows-none (putRows ws base a g) (base + a) (λ i. g (a + i))
+      ∙ ap (λ x. putRows ws base x g) (sym (add-zero a))
+  joined a (suc n) =
+      sym (putRows-more (putRows ws base a g) (base + a) n (λ i. g (a + i)))
+      ∙ ap₂ (λ (x : List ℕ) y. putRows x y 1 (λ _. g (a + n))) (joined a n)
+      (let e : base + a + n ≡ base + (a + n) = omega arith in e)
+      ∙ putRows-more ws base (a + n) g
+      ∙ ap (λ x. putRows ws base x g) (sym (add-suc a n))
+
+  pub wrote-block : (a n at : ℕ) (h : ℕ → List ℕ) (area next : List ℕ) → area ≡ putRows ws base a g → at ≡ base + a
+      → next ≡ putRows area at n h → ((i : ℕ) → i < n → h i ≡ g (a + i)) → next ≡ putRows ws base (a + n) g
+  wrote-block a n at h area next e p q r =
+      q ∙ ap₂ (λ (x : List ℕ) y. putRows x y n h) e p
+      ∙ putRows-cong (putRows ws base a g) (base + a) n h (λ i. g (a + i)) r
+      ∙ joined a n
 
   pub wrote-all : (n count : ℕ) (area : List ℕ) → area ≡ putRows ws base n g → n ≤ count → count ≤ n
       → area ≡ putRows ws base count g

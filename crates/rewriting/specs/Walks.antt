@@ -1,11 +1,19 @@
 -- What the loops over a rule's records say.
+use mathlib.Core.Path.{_≡_}
 use mathlib.Core.List.{List}
-use Prim.Native.Nat.{ℕ}
+use Prim.Native.Nat.{ℕ, _+_}
 use Rattle.forms.specs.Form.{Form}
 use Rattle.forms.specs.Words.{pack}
-use Rattle.forms.specs.Area.{formIn, putRows}
-use Rattle.meaning.specs.Rewriting.{formsOf}
+use Rattle.forms.specs.Area.{formIn, putRows, Holds}
+use Rattle.meaning.specs.Rewriting.{formsOf, derivedRow, derivedRows}
 use Rattle.rewriting.specs.Decode.{ruleIn}
+use Rattle.rewriting.specs.Known.{pastIn}
+use Rattle.rewriting.specs.Plans.{ruleFor, entryFor}
+use Rattle.rewriting.specs.Steps.{neighbourOf, nodeFor, entryIn}
+use Rattle.rewriting.specs.declared.step.Step.{Step}
+use Rattle.rewriting.specs.declared.step.Neighbour.{Neighbour}
+use Rattle.rewriting.specs.declared.step.Plan.{Plan}
+use Rattle.rewriting.specs.declared.step.Moment.{Moment}
 
 -- the row of form j of a list
 unfoldable pub formRow : (m : ℕ) → List (Form m) → ℕ → List ℕ
@@ -14,3 +22,27 @@ formRow m rows j = pack m (formIn m rows j)
 -- a table with the forms of the rule's first records
 abbrev pub tableWith : List ℕ → ℕ → ℕ → List ℕ → List ℕ
 tableWith list records m ws = putRows ws 0 records (formRow m (formsOf m (ruleIn list records) records))
+
+-- the derived row of the record's shift n
+unfoldable pub derivedAt : (step : Step) → (past forms derived : List (Form (step .m))) → ℕ → List ℕ
+derivedAt step past forms derived n =
+    pack (step .m)
+    (derivedRow (step .m) past forms derived (entryIn step) (neighbourOf (step .neighbour)) (step .first)
+    (nodeFor (step .record)) n)
+
+-- the answer is the area with the derived rows of the record's first shifts in its scratch
+abbrev pub PutsDerived : Step → ℕ → List ℕ → ℕ → List ℕ → ℕ → List ℕ → Type 0
+PutsDerived step count fs k ws scratch r =
+    (past forms derived : List (Form (step .m))) → Holds (step .m) ws 0 (step .m) past → Holds (step .m) fs 0 k forms
+    → Holds (step .m) ws scratch (step .first) derived
+    → r ≡ putRows ws (scratch + step .first) count (derivedAt step past forms derived)
+
+-- the derived rows of a record of the log, in the area's scratch
+abbrev pub derivedFor : (list : List ℕ) (plan : Plan) → Moment → Neighbour → List ℕ → List (Form (plan .m))
+derivedFor list plan here later ws =
+    derivedRows (plan .m) (ruleFor list plan) (pastIn (plan .m) ws) (entryFor here) (neighbourOf later)
+    (plan .records)
+
+abbrev pub derivedWith : List ℕ → Plan → Moment → Neighbour → List ℕ → List ℕ
+derivedWith list plan here later ws =
+    putRows ws (plan .places + 1) (plan .m) (formRow (plan .m) (derivedFor list plan here later ws))

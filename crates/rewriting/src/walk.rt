@@ -1,12 +1,20 @@
 // The loops over a rule's records: their forms into a table, their rows into an area.
+use crate::derived::derived_row;
 use crate::form::form_row;
 use crate::rule::count_at;
 use crate::rule::record_at;
+use crate::step::Moment;
+use crate::step::Neighbour;
+use crate::step::Plan;
+use crate::step::Step;
 use forms::area::store;
 ghost use mathlib.Core.Path.{_≡_};
-ghost use Prim.Native.Nat.{_*_, _≤_};
+ghost use Prim.Native.Nat.{_+_, _*_, _≤_};
 ghost use lib.ListN.{length};
-ghost use Rattle.rewriting.specs.Walks.{tableWith};
+ghost use Rattle.rewriting.specs.Known.{Tidy};
+ghost use Rattle.rewriting.specs.Plans.{Sound, HoldsForms};
+ghost use Rattle.rewriting.specs.Steps.{Fair};
+ghost use Rattle.rewriting.specs.Walks.{tableWith, PutsDerived, derivedWith};
 
 // The forms of the first `records` records of the rule, in a table.
 pub fn forms_of(list: &[u8], records: usize, m: usize, table: &mut [u64])
@@ -18,5 +26,56 @@ pub fn forms_of(list: &[u8], records: usize, m: usize, table: &mut [u64])
         let row = form_row(record_at(list, k), first, m, table, k);
         store(table, k, row);
         first += count_at(list, k);
+    }
+}
+
+// The derived rows of the shifts of record k, into the scratch.
+fn derive_record(
+    step: Step,
+    count: usize,
+    forms: &[u64],
+    k: usize,
+    area: &mut [u64],
+    scratch: usize,
+)
+    requires { ⌜ Fair step × (k ≤ 64) × (count ≤ 256) × (step .m ≤ scratch) × (scratch ≤ 64) ⌝ }
+    ensures { λ _. ⌜ PutsDerived step count (now (forms .entry)) k (now (area .entry)) scratch (now (area .exit)) ⌝ }
+{
+    for n in 0..count {
+        let mut turn = step;
+        turn.shift = n;
+        let row = derived_row(turn, forms, k, area, scratch);
+        store(area, scratch + step.first + n, row);
+    }
+}
+
+// The derived rows of the record here, into the scratch.
+pub(crate) fn derive_all(
+    list: &[u8],
+    plan: Plan,
+    here: Moment,
+    later: Neighbour,
+    forms: &[u64],
+    area: &mut [u64],
+)
+    requires { ⌜ Sound (now list) plan × HoldsForms (now list) plan (now forms)
+        × Tidy (plan .places) (plan .m) (now area) ⌝ }
+    ensures { λ _. ⌜ now (area .exit) ≡ derivedWith (now (list .entry)) plan here later (now (area .entry)) ⌝ }
+{
+    let mut first = 0;
+    for k in 0..plan.records {
+        let record = record_at(list, k);
+        let step = Step {
+            record,
+            first,
+            shift: 0,
+            m: plan.m,
+            here: here.time,
+            signals: here.signals,
+            neighbour: later,
+        };
+        let count = count_at(list, k);
+        derive_record(step, count, forms, k, area, plan.places + 1);
+        first += count;
     }
 }

@@ -67,7 +67,8 @@ loop-again c =
       search needs,
       search needs,
       wrote-more _ _ _ (here .k) _ _ _ _ (p .4) (omega arith) (c .before .before .before .store .ensures)
-          (forms-row (a .m) (a .list .now) (a .records) (here .k) _ _ _ _ _ less (start .pre .2) (p .1) read (p .4) made),
+          (forms-row (a .m) (a .list .now) (a .records) (here .k) _ _ _ _ _ less (start .pre .2) (p .1) read
+          (p .4) made),
     )
 
 same-length : tie.Need-same-length Inv-loop μ-loop
