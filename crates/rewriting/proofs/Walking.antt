@@ -1,17 +1,18 @@
 -- One turn of the loops over a rule's records: the rows of one record more.
 -- Assumes nothing.
 use mathlib.Core.Path.{_≡_, refl, sym, ap, ap₂, _∙_, subst}
-use mathlib.Core.Logic.{inl}
+use mathlib.Core.Logic.{inl, inr}
 use mathlib.Core.List.{List}
 use Prim.Native.Nat.{ℕ, _+_, _≤_, _<_}
 use native.Mathlib.Omega.{arith}
+use lib.ListN.{length}
 use Rattle.forms.specs.Form.{Form}
 use Rattle.forms.specs.Words.{pack}
-use Rattle.forms.specs.Area.{putRows}
+use Rattle.forms.specs.Area.{putRows, Holds}
 use Rattle.meaning.specs.Rule.{nodeAt, count, firstOf}
-use Rattle.meaning.specs.Rewriting.{formsOf, derivedRow, derivedRows}
-use Rattle.meaning.proofs.Blocks.{firstOf-fits, length-derivedRows}
-use Rattle.meaning.proofs.Whole.{derived-more, derived-made}
+use Rattle.meaning.specs.Rewriting.{formsOf, derivedRow, derivedRows, pastRow, pastRows}
+use Rattle.meaning.proofs.Blocks.{firstOf-fits, length-derivedRows, length-pastRows}
+use Rattle.meaning.proofs.Whole.{derived-more, derived-made, past-more, past-made}
 use Rattle.rewriting.specs.declared.step.Record.{Record}
 use Rattle.rewriting.specs.declared.step.Step.{Step}
 use Rattle.rewriting.specs.declared.step.Neighbour.{Neighbour}
@@ -21,7 +22,7 @@ use Rattle.rewriting.specs.Decode.{byteOf, nodeIn}
 use Rattle.rewriting.specs.Known.{wordsFor, pastIn, Tidy}
 use Rattle.rewriting.specs.Plans.{ruleFor, entryFor, Sound, HoldsForms}
 use Rattle.rewriting.specs.Steps.{neighbourOf, entryIn, nodeFor, Fair}
-use Rattle.rewriting.specs.Walks.{formRow, derivedAt, PutsDerived, derivedFor}
+use Rattle.rewriting.specs.Walks.{formRow, derivedAt, PutsDerived, derivedFor, pastAt, PutsPast, pastFor}
 use Rattle.rewriting.proofs.Counting.{firstOf-rule, parameters-done}
 use Rattle.rewriting.proofs.Placed.{tidy-held}
 use Rattle.rewriting.proofs.Rules.{node-in}
@@ -74,13 +75,13 @@ module _ (list : List ℕ) (plan : Plan) (sound : Sound list plan) (k first c : 
       }
 
   -- the derived rows of record k
-  pub derive-more : (here : Moment) (later : Neighbour) (fs ws area next : List ℕ) → HoldsForms list plan fs
+  pub derived-block : (here : Moment) (later : Neighbour) (fs ws area next : List ℕ) → HoldsForms list plan fs
       → Tidy (plan .places) (plan .m) ws
       → area ≡ putRows ws (plan .places + 1) first (formRow (plan .m) (derivedFor list plan here later ws))
       → PutsDerived (stepFor plan here later d first) c fs k area (plan .places + 1) next
       → next ≡ putRows ws (plan .places + 1) (first + c) (formRow (plan .m) (derivedFor list plan here later ws))
   unfolding formRow derivedAt entryIn wordsFor
-  derive-more here later fs ws area next hf tidy w puts =
+  derived-block here later fs ws area next hf tidy w puts =
       let m : ℕ = plan .m in
       let rule = ruleFor list plan in
       let base : ℕ = plan .places + 1 in
@@ -103,6 +104,41 @@ module _ (list : List ℕ) (plan : Plan) (sound : Sound list plan) (k first c : 
       (λ i l.
       ap₂ (λ x y. pack m (derivedRow m past forms few e near x y i)) begins node-is
       ∙ ap (pack m) (sym (derived-made m rule past e near k (plan .records) i less (omega (arith, count-is))))
+      ∙ ap (λ x. rows (x + i)) (sym begins))
+
+  -- the past rows of record k
+  pub past-block : (here : Moment) (before : Neighbour) (held : ℕ) (derived : List (Form (plan .m)))
+      (fs ws area next : List ℕ) → HoldsForms list plan fs → length ws ≡ wordsFor (plan .places)
+      → Holds (plan .m) ws (plan .places + 1) held derived
+      → area ≡ putRows ws 0 first (formRow (plan .m) (pastFor list plan here before derived))
+      → PutsPast (stepFor plan here before d first) c fs k area (plan .places + 1) held next
+      → next ≡ putRows ws 0 (first + c) (formRow (plan .m) (pastFor list plan here before derived))
+  unfolding formRow pastAt entryIn wordsFor
+  past-block here before held derived fs ws area next hf long hd w puts =
+      let m : ℕ = plan .m in
+      let rule = ruleFor list plan in
+      let e = entryFor here in
+      let near = neighbourOf before in
+      let forms : List (Form m) = formsOf m rule k in
+      let few : List (Form m) = pastRows m rule derived e near k in
+      let rows : ℕ → List ℕ = formRow m (pastFor list plan here before derived) in
+      let made = pastAt (stepFor plan here before d first) forms derived few in
+      wrote-block ws 0 rows first c first made area next w (omega arith)
+      (puts forms derived few (forms-held m rule k (plan .records) fs (omega arith) hf)
+      (record {
+        behind =
+            held-kept m ws (plan .places + 1) held derived rows 0 first area w
+            (inr (omega (arith, block-fits, sound .few))) hd;
+        front =
+            held-put m ws 0 first few rows area w (length-pastRows m rule derived e near k ∙ sym begins)
+            (omega (arith, long, block-fits, sound .few))
+            (λ j l.
+            ap (pack m)
+            (past-more m rule derived e near k (plan .records) j (omega arith) (omega (arith, begins))));
+      }))
+      (λ i l.
+      ap₂ (λ x y. pack m (pastRow m forms derived few e near x y i)) begins node-is
+      ∙ ap (pack m) (sym (past-made m rule derived e near k (plan .records) i less (omega (arith, count-is))))
       ∙ ap (λ x. rows (x + i)) (sym begins))
 
 -- the parameters of all records are the rule's

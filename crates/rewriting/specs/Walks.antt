@@ -5,11 +5,11 @@ use Prim.Native.Nat.{ℕ, _+_}
 use Rattle.forms.specs.Form.{Form}
 use Rattle.forms.specs.Words.{pack}
 use Rattle.forms.specs.Area.{formIn, putRows, Holds}
-use Rattle.meaning.specs.Rewriting.{formsOf, derivedRow, derivedRows}
+use Rattle.meaning.specs.Rewriting.{formsOf, derivedRow, derivedRows, pastRow, pastRows}
 use Rattle.rewriting.specs.Decode.{ruleIn}
 use Rattle.rewriting.specs.Known.{pastIn}
 use Rattle.rewriting.specs.Plans.{ruleFor, entryFor}
-use Rattle.rewriting.specs.Steps.{neighbourOf, nodeFor, entryIn}
+use Rattle.rewriting.specs.Steps.{neighbourOf, nodeFor, entryIn, Kept}
 use Rattle.rewriting.specs.declared.step.Step.{Step}
 use Rattle.rewriting.specs.declared.step.Neighbour.{Neighbour}
 use Rattle.rewriting.specs.declared.step.Plan.{Plan}
@@ -46,3 +46,28 @@ derivedFor list plan here later ws =
 abbrev pub derivedWith : List ℕ → Plan → Moment → Neighbour → List ℕ → List ℕ
 derivedWith list plan here later ws =
     putRows ws (plan .places + 1) (plan .m) (formRow (plan .m) (derivedFor list plan here later ws))
+
+-- the past row of the record's shift n
+unfoldable pub pastAt : (step : Step) → (forms derived past : List (Form (step .m))) → ℕ → List ℕ
+pastAt step forms derived past n =
+    pack (step .m)
+    (pastRow (step .m) forms derived past (entryIn step) (neighbourOf (step .neighbour)) (step .first)
+    (nodeFor (step .record)) n)
+
+-- the answer is the area with the past rows of the record's first shifts
+abbrev pub PutsPast : Step → ℕ → List ℕ → ℕ → List ℕ → ℕ → ℕ → List ℕ → Type 0
+PutsPast step count fs k ws scratch held r =
+    (forms derived past : List (Form (step .m))) → Holds (step .m) fs 0 k forms
+    → Kept (step .m) ws scratch held (step .first) derived past
+    → r ≡ putRows ws (step .first) count (pastAt step forms derived past)
+
+-- the past rows of a record of the log, and the answer that is the area with them
+abbrev pub pastFor : (list : List ℕ) (plan : Plan) → Moment → Neighbour → List (Form (plan .m))
+    → List (Form (plan .m))
+pastFor list plan here before derived =
+    pastRows (plan .m) (ruleFor list plan) derived (entryFor here) (neighbourOf before) (plan .records)
+
+abbrev pub PastWith : List ℕ → Plan → Moment → Neighbour → ℕ → List ℕ → List ℕ → Type 0
+PastWith list plan here before count ws r =
+    (derived : List (Form (plan .m))) → Holds (plan .m) ws (plan .places + 1) count derived
+    → r ≡ putRows ws 0 (plan .m) (formRow (plan .m) (pastFor list plan here before derived))

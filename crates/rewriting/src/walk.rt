@@ -1,6 +1,7 @@
 // The loops over a rule's records: their forms into a table, their rows into an area.
 use crate::derived::derived_row;
 use crate::form::form_row;
+use crate::past::past_row;
 use crate::rule::count_at;
 use crate::rule::record_at;
 use crate::step::Moment;
@@ -11,10 +12,10 @@ use forms::area::store;
 ghost use mathlib.Core.Path.{_≡_};
 ghost use Prim.Native.Nat.{_+_, _*_, _≤_};
 ghost use lib.ListN.{length};
-ghost use Rattle.rewriting.specs.Known.{Tidy};
+ghost use Rattle.rewriting.specs.Known.{wordsFor, Tidy};
 ghost use Rattle.rewriting.specs.Plans.{Sound, HoldsForms};
 ghost use Rattle.rewriting.specs.Steps.{Fair};
-ghost use Rattle.rewriting.specs.Walks.{tableWith, PutsDerived, derivedWith};
+ghost use Rattle.rewriting.specs.Walks.{tableWith, PutsDerived, derivedWith, PutsPast, PastWith};
 
 // The forms of the first `records` records of the rule, in a table.
 pub fn forms_of(list: &[u8], records: usize, m: usize, table: &mut [u64])
@@ -77,5 +78,59 @@ pub(crate) fn derive_all(
         let count = count_at(list, k);
         derive_record(step, count, forms, k, area, plan.places + 1);
         first += count;
+    }
+}
+
+// The past rows of the shifts of record k. The scratch has the held derived rows of the log record before.
+fn past_record(
+    step: Step,
+    count: usize,
+    forms: &[u64],
+    k: usize,
+    area: &mut [u64],
+    scratch: usize,
+    held: usize,
+)
+    requires { ⌜ Fair step × (k ≤ 64) × (step .first + count ≤ scratch) × (scratch + held ≤ 64) ⌝ }
+    ensures { λ _. ⌜ PutsPast step count (now (forms .entry)) k (now (area .entry)) scratch held
+        (now (area .exit)) ⌝ }
+{
+    for n in 0..count {
+        let mut turn = step;
+        turn.shift = n;
+        let row = past_row(turn, forms, k, area, scratch, held);
+        store(area, step.first + n, row);
+    }
+}
+
+// The past rows of the record here. The scratch has the count derived rows of the record before; none at the first.
+pub(crate) fn past_all(
+    list: &[u8],
+    plan: Plan,
+    here: Moment,
+    before: Neighbour,
+    count: usize,
+    forms: &[u64],
+    area: &mut [u64],
+)
+    requires { ⌜ Sound (now list) plan × HoldsForms (now list) plan (now forms)
+        × (length (now area) ≡ wordsFor (plan .places)) × (count ≤ 12) ⌝ }
+    ensures { λ _. ⌜ PastWith (now (list .entry)) plan here before count (now (area .entry)) (now (area .exit)) ⌝ }
+{
+    let mut first = 0;
+    for k in 0..plan.records {
+        let record = record_at(list, k);
+        let step = Step {
+            record,
+            first,
+            shift: 0,
+            m: plan.m,
+            here: here.time,
+            signals: here.signals,
+            neighbour: before,
+        };
+        let shifts = count_at(list, k);
+        past_record(step, shifts, forms, k, area, plan.places + 1, count);
+        first += shifts;
     }
 }

@@ -10,7 +10,7 @@ use Rattle.meaning.specs.Rule.{firstOf}
 use Rattle.rewriting.specs.Plans.{ruleFor}
 use Rattle.rewriting.specs.Walks.{formRow, derivedFor}
 use Rattle.rewriting.proofs.Counting.{firstOf-rule}
-use Rattle.rewriting.proofs.Walking.{block-fits, step-fair, derive-more, walked-all}
+use Rattle.rewriting.proofs.Walking.{block-fits, step-fair, derived-block, walked-all}
 use Rattle.rewriting.proofs.Written.{wrote-none}
 use Rattle.rewriting.proofs.walk.derive_all.Statement.{statement}
 use Rattle.rewriting.proofs.walk.derive_all.Tie as tie
@@ -89,7 +89,7 @@ loop-again c =
       search needs,
       omega arith,
       search needs,
-      derive-more (a .list .now) (a .plan) (start .pre .0) (here .k) (here .first) _ _ less (here .inv .1) read
+      derived-block (a .list .now) (a .plan) (start .pre .0) (here .k) (here .first) _ _ less (here .inv .1) read
           counted (a .here) (a .later) (a .forms .now) _ _ _ (start .pre .1) (start .pre .2) (here .inv .3)
           (c .before .before .derive-record .ensures),
     )
