@@ -6,10 +6,11 @@ use Rattle.forms.specs.Form.{Form}
 use Rattle.forms.specs.Words.{pack}
 use Rattle.forms.specs.Area.{formIn, putRows, Holds}
 use Rattle.meaning.specs.Rewriting.{formsOf, derivedRow, derivedRows, pastRow, pastRows}
-use Rattle.rewriting.specs.Decode.{ruleIn}
+use Rattle.rewriting.specs.Decode.{byteOf, nodeIn, ruleIn}
 use Rattle.rewriting.specs.Known.{pastIn}
 use Rattle.rewriting.specs.Plans.{ruleFor, entryFor}
 use Rattle.rewriting.specs.Steps.{neighbourOf, nodeFor, entryIn, Kept}
+use Rattle.rewriting.specs.declared.step.Record.{Record}
 use Rattle.rewriting.specs.declared.step.Step.{Step}
 use Rattle.rewriting.specs.declared.step.Neighbour.{Neighbour}
 use Rattle.rewriting.specs.declared.step.Plan.{Plan}
@@ -22,6 +23,25 @@ formRow m rows j = pack m (formIn m rows j)
 -- a table with the forms of the rule's first records
 abbrev pub tableWith : List ℕ → ℕ → ℕ → List ℕ → List ℕ
 tableWith list records m ws = putRows ws 0 records (formRow m (formsOf m (ruleIn list records) records))
+
+-- a record of the rule whose parameters begin at first, at a record of the log, with shift 0
+abbrev pub stepOf : Record → ℕ → ℕ → Moment → Neighbour → Step
+stepOf d first m here near =
+    record {
+      «record» = d;
+      first = first;
+      shift = 0;
+      m = m;
+      here = here .time;
+      signals = here .signals;
+      neighbour = near;
+    }
+
+-- the answer is that of record k
+pub record Begins (list : List ℕ) (k first m : ℕ) (here : Moment) (near : Neighbour) (r : Step) : Type 0 where
+  pub same : r ≡ stepOf (r .record) first m here near
+  pub node : nodeFor (r .record) ≡ nodeIn list k
+  pub kind : r .record .kind ≡ byteOf list k 0
 
 -- the derived row of the record's shift n
 unfoldable pub derivedAt : (step : Step) → (past forms derived : List (Form (step .m))) → ℕ → List ℕ

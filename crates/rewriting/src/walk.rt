@@ -10,12 +10,12 @@ use crate::step::Plan;
 use crate::step::Step;
 use forms::area::store;
 ghost use mathlib.Core.Path.{_≡_};
-ghost use Prim.Native.Nat.{_+_, _*_, _≤_};
+ghost use Prim.Native.Nat.{_+_, _*_, _≤_, _<_};
 ghost use lib.ListN.{length};
 ghost use Rattle.rewriting.specs.Known.{wordsFor, Tidy};
 ghost use Rattle.rewriting.specs.Plans.{Sound, HoldsForms};
 ghost use Rattle.rewriting.specs.Steps.{Fair};
-ghost use Rattle.rewriting.specs.Walks.{tableWith, PutsDerived, derivedWith, PutsPast, PastWith};
+ghost use Rattle.rewriting.specs.Walks.{tableWith, Begins, PutsDerived, derivedWith, PutsPast, PastWith};
 
 // The forms of the first `records` records of the rule, in a table.
 pub fn forms_of(list: &[u8], records: usize, m: usize, table: &mut [u64])
@@ -27,6 +27,30 @@ pub fn forms_of(list: &[u8], records: usize, m: usize, table: &mut [u64])
         let row = form_row(record_at(list, k), first, m, table, k);
         store(table, k, row);
         first += count_at(list, k);
+    }
+}
+
+// Record k of the rule, whose parameters begin at first, at a record of the log, with shift 0.
+fn step_at(
+    list: &[u8],
+    k: usize,
+    first: usize,
+    m: usize,
+    here: Moment,
+    neighbour: Neighbour,
+) -> Step
+    requires { ⌜ k < 64 ⌝ }
+    ensures { λ r. ⌜ Begins (now (list .entry)) k first m here neighbour r ⌝ }
+{
+    let record = record_at(list, k);
+    Step {
+        record,
+        first,
+        shift: 0,
+        m,
+        here: here.time,
+        signals: here.signals,
+        neighbour,
     }
 }
 
@@ -65,16 +89,7 @@ pub(crate) fn derive_all(
 {
     let mut first = 0;
     for k in 0..plan.records {
-        let record = record_at(list, k);
-        let step = Step {
-            record,
-            first,
-            shift: 0,
-            m: plan.m,
-            here: here.time,
-            signals: here.signals,
-            neighbour: later,
-        };
+        let step = step_at(list, k, first, plan.m, here, later);
         let count = count_at(list, k);
         derive_record(step, count, forms, k, area, plan.places + 1);
         first += count;
@@ -119,16 +134,7 @@ pub(crate) fn past_all(
 {
     let mut first = 0;
     for k in 0..plan.records {
-        let record = record_at(list, k);
-        let step = Step {
-            record,
-            first,
-            shift: 0,
-            m: plan.m,
-            here: here.time,
-            signals: here.signals,
-            neighbour: before,
-        };
+        let step = step_at(list, k, first, plan.m, here, before);
         let shifts = count_at(list, k);
         past_record(step, shifts, forms, k, area, plan.places + 1, count);
         first += shifts;

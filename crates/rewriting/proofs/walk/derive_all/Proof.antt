@@ -10,7 +10,7 @@ use Rattle.meaning.specs.Rule.{firstOf}
 use Rattle.rewriting.specs.Plans.{ruleFor}
 use Rattle.rewriting.specs.Walks.{formRow, derivedFor}
 use Rattle.rewriting.proofs.Counting.{firstOf-rule}
-use Rattle.rewriting.proofs.Walking.{block-fits, step-fair, derived-block, walked-all}
+use Rattle.rewriting.proofs.Walking.{block-fits, step-ready, derived-block, walked-all}
 use Rattle.rewriting.proofs.Written.{wrote-none}
 use Rattle.rewriting.proofs.walk.derive_all.Statement.{statement}
 use Rattle.rewriting.proofs.walk.derive_all.Tie as tie
@@ -29,8 +29,8 @@ loop-holds : tie.Need-loop-holds Inv-loop μ-loop
 unfolding firstOf
 loop-holds c = (search needs, search needs, refl, wrote-none _ _ _)
 
-record-at-requires : tie.Need-record-at-requires Inv-loop μ-loop
-record-at-requires c κs = omega (arith, c .before .before .before .before .before .pre .0 .most)
+step-at-requires : tie.Need-step-at-requires Inv-loop μ-loop
+step-at-requires c κs = omega (arith, c .before .before .before .before .before .pre .0 .most)
 
 count-at-requires : tie.Need-count-at-requires Inv-loop μ-loop
 count-at-requires c κs = omega (arith, c .before .before .before .before .before .before .pre .0 .most)
@@ -45,14 +45,15 @@ derive-record-requires c κs =
     let a = start .args in
     let sound = start .pre .0 in
     let here = c .before .before .before .before .before .loop in
-    let read = c .before .before .before .record-at .ensures in
     let counted = c .before .before .count-at .ensures in
-    let less = c .before .before .before .before .loop-test .taken in (
-      step-fair (a .list .now) (a .plan) sound (here .k) (here .first) _ _ less (here .inv .1) (read .0) (counted .0)
-          (a .here) (a .later) (read .1),
+    let ready =
+    step-ready (a .list .now) (a .plan) sound (here .k) (here .first) _
+    (c .before .before .before .before .loop-test .taken) (here .inv .1) (counted .0) (a .here) (a .later) _
+    (c .before .before .before .step-at .ensures) in (
+      ready .0,
       omega (arith, sound .most),
       counted .1,
-      omega (arith, sound .few),
+      ready .1,
       omega (arith, sound .room),
     )
 
@@ -63,9 +64,8 @@ add-first c =
     let sound = start .pre .0 in
     omega (
       arith,
-      block-fits (start .args .list .now) (start .args .plan) sound (here .k) (here .first) _ _
+      block-fits (start .args .list .now) (start .args .plan) sound (here .k) (here .first) _
           (c .before .before .before .before .before .before .before .loop-test .taken) (here .inv .1)
-          (c .before .before .before .before .before .before .record-at .ensures .0)
           (c .before .before .before .before .before .count-at .ensures .0),
       sound .few,
       sound .room,
@@ -83,14 +83,14 @@ loop-again c =
     let a = start .args in
     let here = c .before .before .before .before .before .before .before .before .loop in
     let less = c .before .before .before .before .before .before .before .loop-test .taken in
-    let read = c .before .before .before .before .before .before .record-at .ensures .0 in
+    let read = c .before .before .before .before .before .before .step-at .ensures in
     let counted = c .before .before .before .before .before .count-at .ensures .0 in
     let more = firstOf-rule (a .list .now) (a .plan .records) (here .k) less in (
       search needs,
       omega arith,
       search needs,
-      derived-block (a .list .now) (a .plan) (start .pre .0) (here .k) (here .first) _ _ less (here .inv .1) read
-          counted (a .here) (a .later) (a .forms .now) _ _ _ (start .pre .1) (start .pre .2) (here .inv .3)
+      derived-block (a .list .now) (a .plan) (start .pre .0) (here .k) (here .first) _ less (here .inv .1) counted
+          (a .here) (a .later) _ read (a .forms .now) _ _ _ (start .pre .1) (start .pre .2) (here .inv .3)
           (c .before .before .derive-record .ensures),
     )
 
@@ -107,5 +107,5 @@ returns c =
 pub derive-all-spec : {M : Type 1} → statement M
 derive-all-spec =
     tie.close
-    (tie.spec Inv-loop μ-loop loop-holds record-at-requires count-at-requires add-derive-record
+    (tie.spec Inv-loop μ-loop loop-holds step-at-requires count-at-requires add-derive-record
     derive-record-requires add-first add-k loop-less loop-again same-length returns)

@@ -12,7 +12,7 @@ use Rattle.meaning.specs.Rule.{firstOf}
 use Rattle.rewriting.specs.Plans.{ruleFor}
 use Rattle.rewriting.specs.Walks.{formRow, pastFor}
 use Rattle.rewriting.proofs.Counting.{firstOf-rule}
-use Rattle.rewriting.proofs.Walking.{block-fits, step-fair, past-block, walked-all}
+use Rattle.rewriting.proofs.Walking.{block-fits, step-ready, past-block, walked-all}
 use Rattle.rewriting.proofs.Written.{wrote-none}
 use Rattle.rewriting.proofs.walk.past_all.Statement.{statement}
 use Rattle.rewriting.proofs.walk.past_all.Tie as tie
@@ -32,8 +32,8 @@ loop-holds : tie.Need-loop-holds Inv-loop μ-loop
 unfolding firstOf
 loop-holds c = (search needs, search needs, refl, λ derived hd. wrote-none _ _ _)
 
-record-at-requires : tie.Need-record-at-requires Inv-loop μ-loop
-record-at-requires c κs = omega (arith, c .before .before .before .before .before .pre .0 .most)
+step-at-requires : tie.Need-step-at-requires Inv-loop μ-loop
+step-at-requires c κs = omega (arith, c .before .before .before .before .before .pre .0 .most)
 
 count-at-requires : tie.Need-count-at-requires Inv-loop μ-loop
 count-at-requires c κs = omega (arith, c .before .before .before .before .before .before .pre .0 .most)
@@ -48,19 +48,15 @@ past-record-requires c κs =
     let a = start .args in
     let sound = start .pre .0 in
     let here = c .before .before .before .before .before .loop in
-    let read = c .before .before .before .record-at .ensures in
     let counted = c .before .before .count-at .ensures in
-    let less = c .before .before .before .before .loop-test .taken in (
-      step-fair (a .list .now) (a .plan) sound (here .k) (here .first) _ _ less (here .inv .1) (read .0) (counted .0)
-          (a .here) (a .before) (read .1),
+    let ready =
+    step-ready (a .list .now) (a .plan) sound (here .k) (here .first) _
+    (c .before .before .before .before .loop-test .taken) (here .inv .1) (counted .0) (a .here) (a .before) _
+    (c .before .before .before .step-at .ensures) in (
+      ready .0,
       omega (arith, sound .most),
-      omega (
-        arith,
-        block-fits (a .list .now) (a .plan) sound (here .k) (here .first) _ _ less (here .inv .1) (read .0)
-            (counted .0),
-        sound .few,
-      ),
-      omega (arith, sound .room, start .pre .3),
+      ready .2,
+      omega (arith, sound .few, sound .room, start .pre .3),
     )
 
 add-first : tie.Need-add-first Inv-loop μ-loop
@@ -70,9 +66,8 @@ add-first c =
     let sound = start .pre .0 in
     omega (
       arith,
-      block-fits (start .args .list .now) (start .args .plan) sound (here .k) (here .first) _ _
+      block-fits (start .args .list .now) (start .args .plan) sound (here .k) (here .first) _
           (c .before .before .before .before .before .before .before .loop-test .taken) (here .inv .1)
-          (c .before .before .before .before .before .before .record-at .ensures .0)
           (c .before .before .before .before .before .count-at .ensures .0),
       sound .few,
       sound .room,
@@ -90,15 +85,15 @@ loop-again c =
     let a = start .args in
     let here = c .before .before .before .before .before .before .before .before .loop in
     let less = c .before .before .before .before .before .before .before .loop-test .taken in
-    let read = c .before .before .before .before .before .before .record-at .ensures .0 in
+    let read = c .before .before .before .before .before .before .step-at .ensures in
     let counted = c .before .before .before .before .before .count-at .ensures .0 in
     let more = firstOf-rule (a .list .now) (a .plan .records) (here .k) less in (
       search needs,
       omega arith,
       search needs,
       λ derived hd.
-          past-block (a .list .now) (a .plan) (start .pre .0) (here .k) (here .first) _ _ less (here .inv .1) read
-          counted (a .here) (a .before) (a .count) derived (a .forms .now) _ _ _ (start .pre .1) (start .pre .2) hd
+          past-block (a .list .now) (a .plan) (start .pre .0) (here .k) (here .first) _ less (here .inv .1) counted
+          (a .here) (a .before) _ read (a .count) derived (a .forms .now) _ _ _ (start .pre .1) (start .pre .2) hd
           (here .inv .3 derived hd) (c .before .before .past-record .ensures),
     )
 
@@ -115,5 +110,5 @@ returns c derived hd =
 pub past-all-spec : {M : Type 1} → statement M
 past-all-spec =
     tie.close
-    (tie.spec Inv-loop μ-loop loop-holds record-at-requires count-at-requires add-past-record
+    (tie.spec Inv-loop μ-loop loop-holds step-at-requires count-at-requires add-past-record
     past-record-requires add-first add-k loop-less loop-again same-length returns)
