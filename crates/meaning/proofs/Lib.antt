@@ -18,3 +18,4 @@ pub mod Whole
 pub mod Horizons
 pub mod Keeping
 pub mod Settling
+pub mod Ending

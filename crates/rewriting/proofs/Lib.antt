@@ -9,3 +9,8 @@ pub mod Placed
 pub mod Written
 pub mod Tables
 pub mod Walking
+pub mod Endings
+pub mod Lasting
+pub mod Laid
+pub mod Feeding
+pub mod Rewritten

@@ -3,3 +3,4 @@ pub mod Known
 pub mod Plans
 pub mod Steps
 pub mod Walks
+pub mod Endings

@@ -1,13 +1,14 @@
 -- What the rewriting on a work area is made from, and what it asks for.
 use mathlib.Core.Path.{_≡_}
+use mathlib.Core.Bool.{Bool}
 use mathlib.Core.List.{List}
 use Prim.Native.Nat.{ℕ, _≤_, _<_}
 use Rattle.forms.specs.Area.{Holds}
 use Rattle.meaning.specs.Rule.{Node, Entry, parameters}
 use Rattle.meaning.specs.Rewriting.{formsOf}
-use Rattle.meaning.specs.Words.{Known}
+use Rattle.meaning.specs.Words.{Known, leave, feed, close, valueIfLast}
 use Rattle.rewriting.specs.Decode.{byteOf, ruleIn}
-use Rattle.rewriting.specs.Known.{areaOf, knownIn}
+use Rattle.rewriting.specs.Known.{formAt, knownIn, areaOf, Tidy}
 use Rattle.rewriting.specs.declared.step.Plan.{Plan}
 use Rattle.rewriting.specs.declared.step.Moment.{Moment}
 
@@ -38,3 +39,22 @@ pub record Sound (list : List ℕ) (plan : Plan) : Type 0 where
 abbrev pub HoldsForms : List ℕ → Plan → List ℕ → Type 0
 HoldsForms list plan table =
     Holds (plan .m) table 0 (plan .records) (formsOf (plan .m) (ruleFor list plan) (plan .records))
+
+-- closing: the value were this the last record, and the area where the past rows stay and the remainder is closed
+unfoldable pub closedWith : (plan : Plan) → List Node → Known (plan .m) → Bool × List ℕ
+closedWith plan rule s = (
+  valueIfLast (plan .m) rule s,
+  areaOf (plan .places) (plan .m) (s .past) (close (plan .m) rule s),
+)
+
+-- what the functions on an area ask for: a sound plan, the table of its forms, and a tidy area
+abbrev pub Ready : (list : List ℕ) → Plan → (table ws : List ℕ) → Type 0
+Ready list plan table ws = Sound list plan × HoldsForms list plan table × Tidy (plan .places) (plan .m) ws
+
+-- the area after the first record, and after a later one
+abbrev pub leftWith : List ℕ → (plan : Plan) → (new : Moment) → List ℕ → List ℕ
+leftWith list plan new ws =
+    areaWith plan (leave (plan .m) (ruleFor list plan) (formAt (plan .m) ws (plan .places)) (entryFor new))
+
+abbrev pub fedWith : List ℕ → (plan : Plan) → (last new : Moment) → List ℕ → List ℕ
+fedWith list plan last new ws = areaWith plan (feed (plan .m) (ruleFor list plan) (readIn plan ws last) (entryFor new))

@@ -1,9 +1,11 @@
 // One record's rewriting on a lent area: a row by kind, and the loops over a rule's records.
 mod derived;
+pub mod ending;
 mod form;
 mod interval;
 mod parts;
 mod past;
+pub mod rewrite;
 pub mod rule;
 pub mod step;
 pub mod walk;

@@ -12,8 +12,8 @@ use forms::area::store;
 ghost use mathlib.Core.Path.{_≡_};
 ghost use Prim.Native.Nat.{_+_, _*_, _≤_, _<_};
 ghost use lib.ListN.{length};
-ghost use Rattle.rewriting.specs.Known.{wordsFor, Tidy};
-ghost use Rattle.rewriting.specs.Plans.{Sound, HoldsForms};
+ghost use Rattle.rewriting.specs.Known.{wordsFor};
+ghost use Rattle.rewriting.specs.Plans.{Sound, HoldsForms, Ready};
 ghost use Rattle.rewriting.specs.Steps.{Fair};
 ghost use Rattle.rewriting.specs.Walks.{tableWith, Begins, PutsDerived, derivedWith, PutsPast, PastWith};
 
@@ -83,8 +83,7 @@ pub(crate) fn derive_all(
     forms: &[u64],
     area: &mut [u64],
 )
-    requires { ⌜ Sound (now list) plan × HoldsForms (now list) plan (now forms)
-        × Tidy (plan .places) (plan .m) (now area) ⌝ }
+    requires { ⌜ Ready (now list) plan (now forms) (now area) ⌝ }
     ensures { λ _. ⌜ now (area .exit) ≡ derivedWith (now (list .entry)) plan here later (now (area .entry)) ⌝ }
 {
     let mut first = 0;

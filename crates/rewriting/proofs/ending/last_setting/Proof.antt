@@ -1,0 +1,98 @@
+-- `ending::last_setting` sets the values of record after record.
+-- Assumes nothing.
+use mathlib.Core.Path.{_≡_}
+use Prim.Native.Nat.{_-_, _≤_}
+use native.Mathlib.Omega.{arith}
+use borrow.Author.Needs.{needs}
+use Rattle.meaning.specs.Rule.{firstOf}
+use Rattle.rewriting.specs.Plans.{ruleFor}
+use Rattle.rewriting.specs.Endings.{Settled, lastRows}
+use Rattle.rewriting.proofs.Counting.{firstOf-rule}
+use Rattle.rewriting.proofs.Lasting.{last-fits, last-fair, last-none, last-more, last-done}
+use Rattle.rewriting.proofs.ending.last_setting.Statement.{statement}
+use Rattle.rewriting.proofs.ending.last_setting.Tie as tie
+
+abbrev Inv-loop : tie.InvT-loop
+Inv-loop list plan last forms area setting₀ first₀ k₀ k-end setting first k =
+    (k ≤ plan .records) × (first ≡ firstOf (ruleFor list plan) k)
+    × Settled (plan .m) (lastRows list plan last area k) setting
+
+abbrev μ-loop : tie.MeasureT-loop
+μ-loop list plan last forms area setting₀ first₀ k₀ k-end setting first k = plan .records - k
+
+loop-holds : tie.Need-loop-holds Inv-loop μ-loop
+unfolding firstOf
+loop-holds c =
+    let a = c .before .before .before .args in
+    (search needs, search needs, last-none (a .list .now) (a .plan) (a .last) (a .area .now))
+
+record-at-requires : tie.Need-record-at-requires Inv-loop μ-loop
+record-at-requires c κs = search needs
+
+count-at-requires : tie.Need-count-at-requires Inv-loop μ-loop
+count-at-requires c κs = search needs
+
+end-values-requires : tie.Need-end-values-requires Inv-loop μ-loop
+end-values-requires c κs =
+    let a = c .before .before .before .before .before .before .before .args in
+    let p = c .before .before .before .before .before .before .before .pre in
+    let inv = c .before .before .before .loop .inv in
+    let here = c .before .before .loop-test .taken in (
+      last-fair (a .list .now) (a .plan) (p .0) (a .last) _ _ _ here (inv .1) (c .before .record-at .ensures .1),
+      search needs,
+      last-fits (a .list .now) (a .plan) (p .0) _ _ _ here (inv .1) (c .count-at .ensures .0),
+    )
+
+add-first : tie.Need-add-first Inv-loop μ-loop
+add-first c =
+    let start = c .before .before .before .before .before .before .before .before in
+    let inv = c .before .before .before .before .loop .inv in
+    let here = c .before .before .before .loop-test .taken in
+    omega (
+      arith,
+      last-fits (start .args .list .now) (start .args .plan) (start .pre .0) _ _ _ here (inv .1)
+          (c .before .count-at .ensures .0),
+    )
+
+add-k : tie.Need-add-k Inv-loop μ-loop
+add-k c = search needs
+
+loop-less : tie.Need-loop-less Inv-loop μ-loop
+loop-less c = search needs
+
+loop-again : tie.Need-loop-again Inv-loop μ-loop
+loop-again c =
+    let a = c .before .before .before .before .before .before .before .before .args in
+    let p = c .before .before .before .before .before .before .before .before .pre in
+    let inv = c .before .before .before .before .loop .inv in
+    let here = c .before .before .before .loop-test .taken in
+    let is = c .before .before .record-at .ensures .0 in
+    let counted = c .before .count-at .ensures .0 in
+    let more = firstOf-rule (a .list .now) (a .plan .records) _ here in (
+      search needs,
+      omega (arith, inv .1, more, counted),
+      last-more (a .list .now) (a .plan) (a .last) (a .area .now) (a .forms .now) (p .0) (p .1) (p .2) _ _ _ _ _ _
+          here (inv .1) is counted (inv .2) (c .end-values .ensures),
+    )
+
+returns : tie.Need-returns Inv-loop μ-loop
+returns c =
+    let a = c .before .before .before .before .before .args in
+    let inv = c .before .loop .inv in
+    last-done (a .list .now) (a .plan) (a .last) (a .area .now) _ _ (inv .2) (inv .0) (c .loop-test .left)
+
+pub last-setting-spec : {M : Type 1} → statement M
+last-setting-spec =
+    tie.close
+    (tie.spec
+    Inv-loop
+    μ-loop
+    loop-holds
+    record-at-requires
+    count-at-requires
+    end-values-requires
+    add-first
+    add-k
+    loop-less
+    loop-again
+    returns)
