@@ -27,8 +27,8 @@ module _ (m : ℕ) (rule : List Node) where
   unfolding formsOf
   form-made k K h =
       forms-whole m rule (suc k) K k h (omega arith)
-      ∙ one-new (formsOf m rule k) (formOf m (formsOf m rule k) (firstOf rule k) (nodeAt rule k)) k (constant m false)
-      (length-formsOf m rule k)
+      ∙ one-new (formsOf m rule k) (formOf m (formsOf m rule k) (firstOf rule k) (nodeAt rule k)) k
+      (constant m false) (length-formsOf m rule k)
 
   -- a table that holds the forms of all records holds those of the first
   pub forms-held : (k K : ℕ) (table : List ℕ) → k ≤ K → Holds m table 0 K (formsOf m rule K)
@@ -47,8 +47,8 @@ pub forms-row : (m : ℕ) (list : List ℕ) (records k first : ℕ) (ws table ro
 unfolding formRow
 forms-row m list records k first ws table row d h room e n w made =
     made (formsOf m (ruleIn list records) k)
-    (held-put m ws 0 k (formsOf m (ruleIn list records) k) (formRow m (formsOf m (ruleIn list records) records)) table
-    w (length-formsOf m (ruleIn list records) k) (omega arith)
+    (held-put m ws 0 k (formsOf m (ruleIn list records) k) (formRow m (formsOf m (ruleIn list records) records))
+    table w (length-formsOf m (ruleIn list records) k) (omega arith)
     (λ j l. ap (pack m) (forms-whole m (ruleIn list records) k records j (omega arith) l)))
     ∙ ap₂ (λ x y. pack m (formOf m (formsOf m (ruleIn list records) k) x y)) e
     (n ∙ sym (node-in list records k h))

@@ -55,7 +55,8 @@ module _ (list : List ℕ) (plan : Plan) (sound : Sound list plan) (k first c : 
     -- what the loops over its shifts ask for: the scratch comes after the past rows
     pub step-ready : Fair step × (step .m ≤ plan .places + 1) × (step .first + c ≤ plan .places + 1)
     step-ready =
-        subst (λ (s : Step). Fair s × (s .m ≤ plan .places + 1) × (s .first + c ≤ plan .places + 1)) (sym (b .same)) (
+        subst (λ (s : Step). Fair s × (s .m ≤ plan .places + 1) × (s .first + c ≤ plan .places + 1))
+        (sym (b .same)) (
           record {
             few = omega (arith, sound .few, sound .room);
             within = omega (arith, block-fits, sound .few, sound .room);
@@ -99,7 +100,8 @@ module _ (list : List ℕ) (plan : Plan) (sound : Sound list plan) (k first c : 
 
     -- the past rows of record k
     pub past-block : (held : ℕ) (derived : List (Form (plan .m))) (fs ws area next : List ℕ)
-        → HoldsForms list plan fs → length ws ≡ wordsFor (plan .places) → Holds (plan .m) ws (plan .places + 1) held derived
+        → HoldsForms list plan fs → length ws ≡ wordsFor (plan .places)
+        → Holds (plan .m) ws (plan .places + 1) held derived
         → area ≡ putRows ws 0 first (formRow (plan .m) (pastFor list plan here near derived))
         → PutsPast step c fs k area (plan .places + 1) held next
         → next ≡ putRows ws 0 (first + c) (formRow (plan .m) (pastFor list plan here near derived))
