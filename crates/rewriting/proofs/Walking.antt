@@ -4,6 +4,7 @@ use mathlib.Core.Path.{_≡_, refl, sym, ap, ap₂, _∙_, subst}
 use mathlib.Core.Logic.{inl, inr}
 use mathlib.Core.List.{List}
 use Prim.Native.Nat.{ℕ, _+_, _≤_, _<_}
+use native.Mathlib.Nat.{le-refl}
 use native.Mathlib.Omega.{arith}
 use lib.ListN.{length}
 use Rattle.forms.specs.Form.{Form}
@@ -21,7 +22,7 @@ use Rattle.rewriting.specs.Decode.{nodeIn}
 use Rattle.rewriting.specs.Known.{wordsFor, pastIn, Tidy}
 use Rattle.rewriting.specs.Plans.{ruleFor, entryFor, Sound, HoldsForms}
 use Rattle.rewriting.specs.Steps.{neighbourOf, entryIn, nodeFor, Fair}
-use Rattle.rewriting.specs.Walks.{formRow, stepOf, Begins, derivedAt, PutsDerived, derivedFor}
+use Rattle.rewriting.specs.Walks.{formRow, stepOf, Begins, derivedAt, PutsDerived, derivedFor, derivedWith}
 use Rattle.rewriting.specs.Walks.{pastAt, PutsPast, pastFor}
 use Rattle.rewriting.proofs.Counting.{firstOf-rule, parameters-done}
 use Rattle.rewriting.proofs.Placed.{tidy-held}
@@ -54,7 +55,8 @@ module _ (list : List ℕ) (plan : Plan) (sound : Sound list plan) (k first c : 
     -- what the loops over its shifts ask for: the scratch comes after the past rows
     pub step-ready : Fair step × (step .m ≤ plan .places + 1) × (step .first + c ≤ plan .places + 1)
     step-ready =
-        subst (λ (s : Step). Fair s × (s .m ≤ plan .places + 1) × (s .first + c ≤ plan .places + 1)) (sym (b .same)) (
+        subst (λ (s : Step). Fair s × (s .m ≤ plan .places + 1) × (s .first + c ≤ plan .places + 1))
+        (sym (b .same)) (
           record {
             few = omega (arith, sound .few, sound .room);
             within = omega (arith, block-fits, sound .few, sound .room);
@@ -66,8 +68,7 @@ module _ (list : List ℕ) (plan : Plan) (sound : Sound list plan) (k first c : 
         )
 
     -- the derived rows of record k
-    pub derived-block : (fs ws area next : List ℕ) → HoldsForms list plan fs
-        → Tidy (plan .places) (plan .m) ws
+    pub derived-block : (fs ws area next : List ℕ) → HoldsForms list plan fs → Tidy (plan .places) (plan .m) ws
         → area ≡ putRows ws (plan .places + 1) first (formRow (plan .m) (derivedFor list plan here near ws))
         → PutsDerived step c fs k area (plan .places + 1) next
         → next ≡ putRows ws (plan .places + 1) (first + c) (formRow (plan .m) (derivedFor list plan here near ws))
@@ -98,8 +99,8 @@ module _ (list : List ℕ) (plan : Plan) (sound : Sound list plan) (k first c : 
         ∙ ap (λ x. rows (x + i)) (sym begins))
 
     -- the past rows of record k
-    pub past-block : (held : ℕ) (derived : List (Form (plan .m)))
-        (fs ws area next : List ℕ) → HoldsForms list plan fs → length ws ≡ wordsFor (plan .places)
+    pub past-block : (held : ℕ) (derived : List (Form (plan .m))) (fs ws area next : List ℕ)
+        → HoldsForms list plan fs → length ws ≡ wordsFor (plan .places)
         → Holds (plan .m) ws (plan .places + 1) held derived
         → area ≡ putRows ws 0 first (formRow (plan .m) (pastFor list plan here near derived))
         → PutsPast step c fs k area (plan .places + 1) held next
@@ -139,3 +140,16 @@ pub walked-all : (list : List ℕ) (plan : Plan) (k first : ℕ) (ws area : List
     → area ≡ putRows ws base first g → area ≡ putRows ws base (plan .m) g
 walked-all list plan k first ws area base g sound begins h l e =
     e ∙ ap (λ x. putRows ws base x g) (parameters-done list (plan .records) k first begins h l ∙ sym (sound .own))
+
+-- the derived rows are held where they were put
+pub derived-held : (list : List ℕ) (plan : Plan) (here : Moment) (near : Neighbour) (ws area : List ℕ)
+    → Sound list plan → length ws ≡ wordsFor (plan .places) → area ≡ derivedWith list plan here near ws
+    → Holds (plan .m) area (plan .places + 1) (plan .m) (derivedFor list plan here near ws)
+unfolding wordsFor
+derived-held list plan here near ws area sound long w =
+    held-put (plan .m) ws (plan .places + 1) (plan .m) (derivedFor list plan here near ws)
+    (formRow (plan .m) (derivedFor list plan here near ws)) area w
+    (length-derivedRows (plan .m) (ruleFor list plan) (pastIn (plan .m) ws) (entryFor here) (neighbourOf near)
+    (plan .records)
+    ∙ parameters-done list (plan .records) (plan .records) _ refl (le-refl _) (le-refl _) ∙ sym (sound .own))
+    (omega (arith, long, sound .few)) (λ j h. refl)
