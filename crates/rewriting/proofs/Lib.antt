@@ -6,6 +6,11 @@ pub mod RecordForms
 pub mod Rules
 pub mod Counting
 pub mod Placed
+pub mod Written
+pub mod Tables
+pub mod Walking
 pub mod Endings
 pub mod Lasting
 pub mod Laid
+pub mod Feeding
+pub mod Rewritten

@@ -6,9 +6,9 @@ use Prim.Native.Nat.{ℕ, _≤_, _<_}
 use Rattle.forms.specs.Area.{Holds}
 use Rattle.meaning.specs.Rule.{Node, Entry, parameters}
 use Rattle.meaning.specs.Rewriting.{formsOf}
-use Rattle.meaning.specs.Words.{Known, close, valueIfLast}
+use Rattle.meaning.specs.Words.{Known, leave, feed, close, valueIfLast}
 use Rattle.rewriting.specs.Decode.{byteOf, ruleIn}
-use Rattle.rewriting.specs.Known.{areaOf, knownIn}
+use Rattle.rewriting.specs.Known.{formAt, knownIn, areaOf, Tidy}
 use Rattle.rewriting.specs.declared.step.Plan.{Plan}
 use Rattle.rewriting.specs.declared.step.Moment.{Moment}
 
@@ -46,3 +46,15 @@ closedWith plan rule s = (
   valueIfLast (plan .m) rule s,
   areaOf (plan .places) (plan .m) (s .past) (close (plan .m) rule s),
 )
+
+-- what the functions on an area ask for: a sound plan, the table of its forms, and a tidy area
+abbrev pub Ready : (list : List ℕ) → Plan → (table ws : List ℕ) → Type 0
+Ready list plan table ws = Sound list plan × HoldsForms list plan table × Tidy (plan .places) (plan .m) ws
+
+-- the area after the first record, and after a later one
+abbrev pub leftWith : List ℕ → (plan : Plan) → (new : Moment) → List ℕ → List ℕ
+leftWith list plan new ws =
+    areaWith plan (leave (plan .m) (ruleFor list plan) (formAt (plan .m) ws (plan .places)) (entryFor new))
+
+abbrev pub fedWith : List ℕ → (plan : Plan) → (last new : Moment) → List ℕ → List ℕ
+fedWith list plan last new ws = areaWith plan (feed (plan .m) (ruleFor list plan) (readIn plan ws last) (entryFor new))

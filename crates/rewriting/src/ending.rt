@@ -21,8 +21,8 @@ ghost use lib.Dec.{eqb};
 ghost use lib.ListN.{length};
 ghost use Rattle.ground.specs.Bits.{bit};
 ghost use Rattle.meaning.specs.Words.{start, valueIfLast};
-ghost use Rattle.rewriting.specs.Known.{wordsFor, areaOf, Tidy};
-ghost use Rattle.rewriting.specs.Plans.{ruleFor, readIn, Sound, HoldsForms, closedWith};
+ghost use Rattle.rewriting.specs.Known.{wordsFor, areaOf};
+ghost use Rattle.rewriting.specs.Plans.{ruleFor, readIn, Sound, HoldsForms, Ready, closedWith};
 ghost use Rattle.rewriting.specs.Steps.{Fair};
 ghost use Rattle.rewriting.specs.Endings.{Settled, lastRows, OfEnd, OfEnds};
 
@@ -79,7 +79,7 @@ fn end_values(
 
 // The setting of a rule's parameters, were this the last record.
 fn last_setting(list: &[u8], plan: Plan, last: Moment, forms: &[u64], area: &[u64]) -> usize
-    requires { ⌜ Sound (now list) plan × HoldsForms (now list) plan (now forms) × Tidy (plan .places) (plan .m) (now area) ⌝ }
+    requires { ⌜ Ready (now list) plan (now forms) (now area) ⌝ }
     ensures { λ r. ⌜ Settled (plan .m) (lastRows (now (list .entry)) plan last (now (area .entry)) (plan .records)) r ⌝ }
 {
     let mut setting: usize = 0;
@@ -104,7 +104,7 @@ fn last_setting(list: &[u8], plan: Plan, last: Moment, forms: &[u64], area: &[u6
 
 // The value were this the last record.
 pub fn value_if_last(list: &[u8], plan: Plan, last: Moment, forms: &[u64], area: &[u64]) -> bool
-    requires { ⌜ Sound (now list) plan × HoldsForms (now list) plan (now forms) × Tidy (plan .places) (plan .m) (now area) ⌝ }
+    requires { ⌜ Ready (now list) plan (now forms) (now area) ⌝ }
     ensures { λ r. ⌜ r ≡ valueIfLast (plan .m) (ruleFor (now (list .entry)) plan) (readIn plan (now (area .entry)) last) ⌝ }
 {
     let setting = last_setting(list, plan, last, forms, area);
@@ -113,7 +113,7 @@ pub fn value_if_last(list: &[u8], plan: Plan, last: Moment, forms: &[u64], area:
 
 // Closing: the past rows stay, and the remainder is the constant.
 pub fn close(list: &[u8], plan: Plan, last: Moment, forms: &[u64], area: &mut [u64]) -> bool
-    requires { ⌜ Sound (now list) plan × HoldsForms (now list) plan (now forms) × Tidy (plan .places) (plan .m) (now area) ⌝ }
+    requires { ⌜ Ready (now list) plan (now forms) (now area) ⌝ }
     ensures { λ r. ⌜ (r, now (area .exit)) ≡ closedWith plan (ruleFor (now (list .entry)) plan) (readIn plan (now (area .entry)) last) ⌝ }
 {
     let b = value_if_last(list, plan, last, forms, area);

@@ -5,5 +5,7 @@ mod form;
 mod interval;
 mod parts;
 mod past;
+pub mod rewrite;
 pub mod rule;
 pub mod step;
+pub mod walk;

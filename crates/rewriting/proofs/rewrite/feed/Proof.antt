@@ -1,0 +1,54 @@
+-- `rewrite::feed` meets its contract: derived rows, the remainder, past rows, and the scratch cleared.
+-- Assumes nothing.
+use native.Mathlib.Omega.{arith}
+use borrow.Author.Needs.{needs}
+use mathlib.Core.Path.{_∙_}
+use Rattle.rewriting.specs.Steps.{neighbourOf}
+use Rattle.rewriting.proofs.Rewritten.{plan-few, feed-done}
+use Rattle.rewriting.proofs.rewrite.feed.Statement.{statement}
+use Rattle.rewriting.proofs.rewrite.feed.Tie as tie
+
+add-scratch : tie.Need-add-scratch
+add-scratch c = search needs
+
+derive-all-requires : tie.Need-derive-all-requires
+derive-all-requires c κs = c .before .before .before .before .before .pre
+
+load-requires : tie.Need-load-requires
+load-requires c κs = search needs
+
+put-in-requires : tie.Need-put-in-requires
+put-in-requires c κs = search needs
+
+store-requires : tie.Need-store-requires
+store-requires c κs = search needs
+
+past-all-requires : tie.Need-past-all-requires
+past-all-requires c κs = search needs
+
+clear-requires : tie.Need-clear-requires
+clear-requires c κs = search needs
+
+same-length : tie.Need-same-length
+same-length c = search needs
+
+returns : tie.Need-returns
+unfolding neighbourOf
+returns c =
+    let start = c .before .before .before .before .before .before .before .before .before .before .before .before .before .before .before .before .before .before .before .before .before .before .before .before in
+    feed-done _ _ (start .pre .0) _ (start .pre .2) _ _ _ _ _ _ _ _ (c .before .before .before .before .before .before .before .before .before .before .before .before .before .before .before .before .before .before .derive-all .ensures) (c .before .before .before .before .before .before .before .before .before .before .before .before .before .before .load .ensures)
+    (c .before .before .before .before .before .before .before .before .before .before .before .before .put-in .ensures) (c .before .before .before .before .before .before .before .before .before .before .store .ensures) (c .before .before .before .before .before .before .past-all .ensures) (c .before .before .clear .ensures)
+
+pub feed-spec : {M : Type 1} → statement M
+feed-spec =
+    tie.close
+    (tie.spec
+    add-scratch
+    derive-all-requires
+    load-requires
+    put-in-requires
+    store-requires
+    past-all-requires
+    clear-requires
+    same-length
+    returns)

@@ -1,0 +1,29 @@
+-- `rewrite::first` meets its contract: past rows with no derived rows, and the scratch cleared.
+-- Assumes nothing.
+use native.Mathlib.Omega.{arith}
+use borrow.Author.Needs.{needs}
+use Rattle.rewriting.specs.Steps.{neighbourOf}
+use Rattle.rewriting.proofs.Rewritten.{first-done}
+use Rattle.rewriting.proofs.rewrite.first.Statement.{statement}
+use Rattle.rewriting.proofs.rewrite.first.Tie as tie
+
+add-scratch : tie.Need-add-scratch
+add-scratch c = search needs
+
+past-all-requires : tie.Need-past-all-requires
+past-all-requires c κs = search needs
+
+clear-requires : tie.Need-clear-requires
+clear-requires c κs = search needs
+
+same-length : tie.Need-same-length
+same-length c = search needs
+
+returns : tie.Need-returns
+unfolding neighbourOf
+returns c =
+    let start = c .before .before .before .before .before .before .before .before .before .before .before .before in
+    first-done _ _ (start .pre .0) _ (start .pre .2) _ _ _ (c .before .before .before .before .before .before .past-all .ensures) (c .before .before .clear .ensures)
+
+pub first-spec : {M : Type 1} → statement M
+first-spec = tie.close (tie.spec add-scratch past-all-requires clear-requires same-length returns)

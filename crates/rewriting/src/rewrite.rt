@@ -1,0 +1,44 @@
+// A record of the log rewrites the work area: past rows from place 0 on, the remainder behind the places for them,
+// then the scratch.
+use crate::step::Moment;
+use crate::step::Neighbour;
+use crate::step::Plan;
+use crate::walk::derive_all;
+use crate::walk::past_all;
+use forms::area::clear;
+use forms::area::load;
+use forms::area::store;
+use forms::table::put_in;
+ghost use mathlib.Core.Path.{_≡_};
+ghost use Rattle.rewriting.specs.Plans.{Ready, leftWith, fedWith};
+
+// The first record leaves the remainder, and makes its past rows.
+pub fn first(list: &[u8], plan: Plan, new: Moment, forms: &[u64], area: &mut [u64])
+    requires { ⌜ Ready (now list) plan (now forms) (now area) ⌝ }
+    ensures { λ _. ⌜ now (area .exit) ≡ leftWith (now (list .entry)) plan new (now (area .entry)) ⌝ }
+{
+    let scratch = plan.places + 1;
+    past_all(list, plan, new, Neighbour::None, 0, forms, area);
+    clear(area, scratch, scratch);
+}
+
+// A later record puts the derived rows of the one before into the remainder, then makes its past rows.
+pub fn feed(list: &[u8], plan: Plan, last: Moment, new: Moment, forms: &[u64], area: &mut [u64])
+    requires { ⌜ Ready (now list) plan (now forms) (now area) ⌝ }
+    ensures { λ _. ⌜ now (area .exit) ≡ fedWith (now (list .entry)) plan last new (now (area .entry)) ⌝ }
+{
+    let scratch = plan.places + 1;
+    derive_all(list, plan, last, Neighbour::At(new.time), forms, area);
+    let rest = put_in(load(area, plan.places), area, scratch, plan.m);
+    store(area, plan.places, rest);
+    past_all(
+        list,
+        plan,
+        new,
+        Neighbour::At(last.time),
+        plan.m,
+        forms,
+        area,
+    );
+    clear(area, scratch, scratch);
+}
