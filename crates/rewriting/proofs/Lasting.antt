@@ -12,36 +12,25 @@ use Rattle.ground.specs.Fold.{tab}
 use Rattle.ground.specs.Bits.{bit}
 use Rattle.ground.proofs.Bits.{bit-zero}
 use Rattle.forms.specs.Form.{constant, value}
-use Rattle.forms.specs.Words.{pack}
-use Rattle.forms.specs.Area.{formIn, Holds}
-use Rattle.meaning.specs.Rule.{Node, count, firstOf}
+use Rattle.forms.specs.Area.{formIn}
+use Rattle.meaning.specs.Rule.{count, firstOf}
 use Rattle.meaning.specs.Rewriting.{none, formsOf, derivedRow, derivedRows}
 use Rattle.meaning.specs.Words.{valueIfLast}
-use Rattle.meaning.proofs.Blocks.{firstOf-fits, length-formsOf, length-derivedRows}
-use Rattle.meaning.proofs.Whole.{forms-whole}
+use Rattle.meaning.proofs.Blocks.{length-derivedRows}
 use Rattle.meaning.proofs.Ending.{last-value}
-use Rattle.rewriting.specs.declared.step.Record.{Record}
 use Rattle.rewriting.specs.declared.step.Step.{Step}
 use Rattle.rewriting.specs.declared.step.Plan.{Plan}
 use Rattle.rewriting.specs.declared.step.Moment.{Moment}
 use Rattle.rewriting.specs.declared.step.Neighbour.the-variants.{None}
-use Rattle.rewriting.specs.Decode.{byteOf, nodeIn}
-use Rattle.rewriting.specs.Known.{pastIn, knownIn, formAt, Tidy}
-use Rattle.rewriting.specs.Plans.{ruleFor, entryFor, readIn, Sound, HoldsForms}
-use Rattle.rewriting.specs.Steps.{nodeFor, entryIn, Fair}
+use Rattle.rewriting.specs.Decode.{nodeIn}
+use Rattle.rewriting.specs.Known.{pastIn, knownIn, formAt}
+use Rattle.rewriting.specs.Plans.{ruleFor, entryFor, readIn, Ready}
+use Rattle.rewriting.specs.Steps.{nodeFor, entryIn}
+use Rattle.rewriting.specs.Walks.{Begins}
 use Rattle.rewriting.specs.Endings.{Settled, lastRow, OfEnds, lastRows}
 use Rattle.rewriting.proofs.Rules.{length-ruleIn, node-in}
-use Rattle.rewriting.proofs.Counting.{firstOf-rule}
 use Rattle.rewriting.proofs.Placed.{tidy-held}
-
--- a table that holds the forms of all records holds those of the first
-forms-held : (m : ℕ) (rule : List Node) (k K : ℕ) (table : List ℕ) → k ≤ K → Holds m table 0 K (formsOf m rule K)
-    → Holds m table 0 k (formsOf m rule k)
-forms-held m rule k K table h p =
-    record {
-      long = length-formsOf m rule k;
-      row = λ j l. p .row j (omega arith) ∙ ap (pack m) (forms-whole m rule k K j h l);
-    }
+use Rattle.rewriting.proofs.Tables.{forms-held}
 
 -- the derived rows of one record more
 lastRows-more : (list : List ℕ) (plan : Plan) (last : Moment) (ws : List ℕ) (k : ℕ) → k < plan .records
@@ -60,69 +49,33 @@ unfolding lastRows
 length-lastRows list plan last ws k =
     length-derivedRows (plan .m) (ruleFor list plan) (pastIn (plan .m) ws) (entryFor last) none k
 
--- the step of a record, were this the last of the log
-abbrev pub lastStep : Plan → Moment → Record → ℕ → Step
-lastStep plan last d first =
-    record {
-      «record» = d;
-      first = first;
-      shift = 0;
-      m = plan .m;
-      here = last .time;
-      signals = last .signals;
-      neighbour = None;
-    }
-
-module _ (list : List ℕ) (plan : Plan) (sound : Sound list plan) where
-  -- a record's parameters have places among the twelve
-  pub last-fits : (k first c : ℕ) → k < plan .records
-      → first ≡ firstOf (ruleFor list plan) k → c ≡ count (nodeIn list k)
-      → first + c ≤ 12
-  last-fits k first c h e q =
-      omega (
-        arith,
-        firstOf-rule list (plan .records) k h,
-        firstOf-fits (ruleFor list plan) (k + 1),
-        sound .own,
-        sound .few,
-        sound .room,
-      )
-
-  pub last-fair : (last : Moment) (d : Record) (k first : ℕ) → k < plan .records
-      → first ≡ firstOf (ruleFor list plan) k → d .kind ≡ byteOf list k 0 → Fair (lastStep plan last d first)
-  last-fair last d k first h e q =
-      record {
-        few = omega (arith, sound .few, sound .room);
-        within = omega (arith, firstOf-fits (ruleFor list plan) k, sound .own, sound .few, sound .room);
-        byte = omega arith;
-        some = subst (λ x. 1 ≤ x) (sym q) (sound .kinds k h);
-      }
-
 module _ (list : List ℕ) (plan : Plan) (last : Moment) (ws : List ℕ) where
   -- no record, one more, and all of them
   pub last-none : Settled (plan .m) (lastRows list plan last ws 0) 0
   unfolding lastRows derivedRows
   last-none j = ap (constant (plan .m)) (sym (bit-zero j))
 
-  pub last-more : (fs : List ℕ) → Sound list plan → HoldsForms list plan fs → Tidy (plan .places) (plan .m) ws
-      → (d : Record) (k first c setting r : ℕ) → k < plan .records → first ≡ firstOf (ruleFor list plan) k
-      → nodeFor d ≡ nodeIn list k → c ≡ count (nodeIn list k)
-      → Settled (plan .m) (lastRows list plan last ws k) setting
-      → OfEnds (lastStep plan last d first) c fs k ws setting r
-      → Settled (plan .m) (lastRows list plan last ws (k + 1)) r
+  pub last-more : (fs : List ℕ) → Ready list plan fs ws → (k first c setting r : ℕ) (step : Step)
+      → k < plan .records → first ≡ firstOf (ruleFor list plan) k → c ≡ count (nodeIn list k)
+      → Begins list k first (plan .m) last None step → Settled (plan .m) (lastRows list plan last ws k) setting
+      → OfEnds step c fs k ws setting r → Settled (plan .m) (lastRows list plan last ws (k + 1)) r
   unfolding lastRow entryIn
-  last-more fs sound held tidy d k first c setting r h e n q s ends =
+  last-more fs ready k first c setting r step h e q b s ends =
       let m = plan .m in
       let rule = ruleFor list plan in
       let rows = lastRows list plan last ws k in
       let past = pastIn m ws in
       let forms = formsOf m rule k in
+      let d = step .record in
       subst (λ x. Settled m x r)
       (ap (λ i. rows ++ tab i (derivedRow m past forms rows (entryFor last) none first (nodeFor d))) q
-      ∙ ap₂ (λ i x. rows ++ tab (count (nodeIn list k)) (derivedRow m past forms rows (entryFor last) none i x)) e n
+      ∙ ap₂ (λ i x. rows ++ tab (count (nodeIn list k)) (derivedRow m past forms rows (entryFor last) none i x)) e
+      (b .node)
       ∙ sym (lastRows-more list plan last ws k h))
-      (ends past forms rows (tidy-held (plan .places) m ws tidy (sound .few))
-      (forms-held m rule k (plan .records) fs (omega arith) held) (length-lastRows list plan last ws k ∙ sym e) s)
+      (subst (λ x. OfEnds x c fs k ws setting r) (b .same) ends past forms rows
+      (tidy-held (plan .places) m ws (ready .2) (ready .0 .few))
+      (forms-held m rule k (plan .records) fs (omega arith) (ready .1))
+      (length-lastRows list plan last ws k ∙ sym e) s)
 
   pub last-done : (k setting : ℕ) → Settled (plan .m) (lastRows list plan last ws k) setting → k ≤ plan .records
       → plan .records ≤ k → Settled (plan .m) (lastRows list plan last ws (plan .records)) setting

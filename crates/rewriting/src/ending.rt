@@ -3,11 +3,11 @@ use crate::interval::inside_now;
 use crate::parts::row_of;
 use crate::parts::signal;
 use crate::rule::count_at;
-use crate::rule::record_at;
 use crate::step::Moment;
 use crate::step::Neighbour;
 use crate::step::Plan;
 use crate::step::Step;
+use crate::walk::step_at;
 use forms::area::clear;
 use forms::area::load;
 use forms::area::store;
@@ -64,7 +64,7 @@ fn end_values(
     area: &[u64],
     setting: usize,
 ) -> usize
-    requires { ⌜ Fair step × (k ≤ 64) × (step .first + count ≤ 12) ⌝ }
+    requires { ⌜ Fair step × (k ≤ 64) × (step .first + count ≤ 64) ⌝ }
     ensures { λ r. ⌜ OfEnds step count (now (forms .entry)) k (now (area .entry)) setting r ⌝ }
 {
     let mut grown = setting;
@@ -85,16 +85,7 @@ fn last_setting(list: &[u8], plan: Plan, last: Moment, forms: &[u64], area: &[u6
     let mut setting: usize = 0;
     let mut first: usize = 0;
     for k in 0..plan.records {
-        let record = record_at(list, k);
-        let step = Step {
-            record,
-            first,
-            shift: 0,
-            m: plan.m,
-            here: last.time,
-            signals: last.signals,
-            neighbour: Neighbour::None,
-        };
+        let step = step_at(list, k, first, plan.m, last, Neighbour::None);
         let count = count_at(list, k);
         setting = end_values(step, count, forms, k, area, setting);
         first += count;

@@ -31,7 +31,7 @@ pub fn forms_of(list: &[u8], records: usize, m: usize, table: &mut [u64])
 }
 
 // Record k of the rule, whose parameters begin at first, at a record of the log, with shift 0.
-fn step_at(
+pub(crate) fn step_at(
     list: &[u8],
     k: usize,
     first: usize,

@@ -127,7 +127,8 @@ module _ (earlier : List Horizon) (l r low high : ℕ) where
 -- the number of a record's horizon, by its kind
 module _ (d : Record) (codes : List ℕ) (k : ℕ) where
   pub sides : (left right more : ℕ) → Small codes k → left ≡ getD codes (d .left) 0 → right ≡ getD codes (d .right) 0
-      → OfLarger left right more → ((n : ℕ) → left ≤ n → right ≤ n → more ≤ n) → SidesOf d codes k (record { left = left; both = more })
+      → OfLarger left right more → ((n : ℕ) → left ≤ n → right ≤ n → more ≤ n)
+      → SidesOf d codes k (record { left = left; both = more })
   sides left right more small e q made least =
       record {
         first = e;

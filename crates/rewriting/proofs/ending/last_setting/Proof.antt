@@ -5,10 +5,12 @@ use Prim.Native.Nat.{_-_, _≤_}
 use native.Mathlib.Omega.{arith}
 use borrow.Author.Needs.{needs}
 use Rattle.meaning.specs.Rule.{firstOf}
+use Rattle.rewriting.specs.declared.step.Neighbour.the-variants.{None}
 use Rattle.rewriting.specs.Plans.{ruleFor}
 use Rattle.rewriting.specs.Endings.{Settled, lastRows}
 use Rattle.rewriting.proofs.Counting.{firstOf-rule}
-use Rattle.rewriting.proofs.Lasting.{last-fits, last-fair, last-none, last-more, last-done}
+use Rattle.rewriting.proofs.Walking.{block-fits, step-ready}
+use Rattle.rewriting.proofs.Lasting.{last-none, last-more, last-done}
 use Rattle.rewriting.proofs.ending.last_setting.Statement.{statement}
 use Rattle.rewriting.proofs.ending.last_setting.Tie as tie
 
@@ -26,33 +28,31 @@ loop-holds c =
     let a = c .before .before .before .args in
     (search needs, search needs, last-none (a .list .now) (a .plan) (a .last) (a .area .now))
 
-record-at-requires : tie.Need-record-at-requires Inv-loop μ-loop
-record-at-requires c κs = search needs
+step-at-requires : tie.Need-step-at-requires Inv-loop μ-loop
+step-at-requires c κs = search needs
 
 count-at-requires : tie.Need-count-at-requires Inv-loop μ-loop
 count-at-requires c κs = search needs
 
 end-values-requires : tie.Need-end-values-requires Inv-loop μ-loop
 end-values-requires c κs =
-    let a = c .before .before .before .before .before .before .before .args in
-    let p = c .before .before .before .before .before .before .before .pre in
-    let inv = c .before .before .before .loop .inv in
-    let here = c .before .before .loop-test .taken in (
-      last-fair (a .list .now) (a .plan) (p .0) (a .last) _ _ _ here (inv .1) (c .before .record-at .ensures .1),
-      search needs,
-      last-fits (a .list .now) (a .plan) (p .0) _ _ _ here (inv .1) (c .count-at .ensures .0),
-    )
+    let start = c .before .before .before .before .before .before .before in
+    let a = start .args in
+    let sound = start .pre .0 in
+    let here = c .before .before .before .loop in
+    let ready =
+    step-ready (a .list .now) (a .plan) sound (here .k) (here .first) _ (c .before .before .loop-test .taken)
+    (here .inv .1) (c .count-at .ensures .0) (a .last) None _ (c .before .step-at .ensures) in
+    (ready .0, search needs, omega (arith, ready .2, sound .room))
 
 add-first : tie.Need-add-first Inv-loop μ-loop
 add-first c =
     let start = c .before .before .before .before .before .before .before .before in
-    let inv = c .before .before .before .before .loop .inv in
-    let here = c .before .before .before .loop-test .taken in
-    omega (
-      arith,
-      last-fits (start .args .list .now) (start .args .plan) (start .pre .0) _ _ _ here (inv .1)
-          (c .before .count-at .ensures .0),
-    )
+    let here = c .before .before .before .before .loop in
+    let sound = start .pre .0 in
+    let fits = block-fits (start .args .list .now) (start .args .plan) sound (here .k) (here .first) _
+    (c .before .before .before .loop-test .taken) (here .inv .1) (c .before .count-at .ensures .0) in
+    omega (arith, fits, sound .few, sound .room)
 
 add-k : tie.Need-add-k Inv-loop μ-loop
 add-k c = search needs
@@ -62,17 +62,17 @@ loop-less c = search needs
 
 loop-again : tie.Need-loop-again Inv-loop μ-loop
 loop-again c =
-    let a = c .before .before .before .before .before .before .before .before .args in
-    let p = c .before .before .before .before .before .before .before .before .pre in
-    let inv = c .before .before .before .before .loop .inv in
-    let here = c .before .before .before .loop-test .taken in
-    let is = c .before .before .record-at .ensures .0 in
+    let start = c .before .before .before .before .before .before .before .before in
+    let a = start .args in
+    let here = c .before .before .before .before .loop in
+    let less = c .before .before .before .loop-test .taken in
+    let read = c .before .before .step-at .ensures in
     let counted = c .before .count-at .ensures .0 in
-    let more = firstOf-rule (a .list .now) (a .plan .records) _ here in (
+    let more = firstOf-rule (a .list .now) (a .plan .records) (here .k) less in (
       search needs,
-      omega (arith, inv .1, more, counted),
-      last-more (a .list .now) (a .plan) (a .last) (a .area .now) (a .forms .now) (p .0) (p .1) (p .2) _ _ _ _ _ _
-          here (inv .1) is counted (inv .2) (c .end-values .ensures),
+      omega arith,
+      last-more (a .list .now) (a .plan) (a .last) (a .area .now) (a .forms .now) (start .pre) (here .k) (here .first)
+          _ _ _ _ less (here .inv .1) counted read (here .inv .2) (c .end-values .ensures),
     )
 
 returns : tie.Need-returns Inv-loop μ-loop
@@ -88,7 +88,7 @@ last-setting-spec =
     Inv-loop
     μ-loop
     loop-holds
-    record-at-requires
+    step-at-requires
     count-at-requires
     end-values-requires
     add-first

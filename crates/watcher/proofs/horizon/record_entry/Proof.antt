@@ -45,16 +45,16 @@ returns-5 c =
     let made = c .before .before in
     let a = made .before .before .args in
     let rest = c .before .match .rest in
-    record-larger (a .«record») (a .codes .now) (a .k) _ (made .sides-of .ensures) (rest .0 .0 .1) (rest .0 .1) (rest .1)
-    (λ h. omega arith)
+    record-larger (a .«record») (a .codes .now) (a .k) _ (made .sides-of .ensures) (rest .0 .0 .1)
+    (rest .0 .1) (rest .1) (λ h. omega arith)
 
 returns-6 : tie.Need-returns-6
 returns-6 c =
     let made = c .before .before .before in
     let a = made .before .before .args in
     let rest = c .before .before .match .rest in
-    record-larger (a .«record») (a .codes .now) (a .k) _ (made .sides-of .ensures) (rest .0 .0 .1) (rest .0 .1) (rest .1)
-    (λ h. c .if2 .left)
+    record-larger (a .«record») (a .codes .now) (a .k) _ (made .sides-of .ensures) (rest .0 .0 .1)
+    (rest .0 .1) (rest .1) (λ h. c .if2 .left)
 
 pub record-entry-spec : {M : Type 1} → statement M
 record-entry-spec =
