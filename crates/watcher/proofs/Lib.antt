@@ -6,4 +6,5 @@ pub mod Speed
 pub mod Decoded
 pub mod Checking
 pub mod Refusing
+pub mod HeldLaws
 pub mod Examples

@@ -1,4 +1,5 @@
 // The watcher: its state with its limits, and the checks of rule list, signal list and log record.
+mod held;
 mod lists;
 pub mod readings;
 pub mod refusals;
