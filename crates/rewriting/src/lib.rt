@@ -2,7 +2,7 @@
 mod derived;
 mod form;
 mod interval;
-mod parts;
+pub mod parts;
 mod past;
 pub mod rule;
 pub mod step;

@@ -8,3 +8,4 @@ pub mod Numbers
 pub mod State
 pub mod Calls
 pub mod Examples
+pub mod Shapes

@@ -3,5 +3,6 @@ mod held;
 mod lists;
 pub mod readings;
 pub mod refusals;
+mod shape;
 mod signals;
 pub mod state;
