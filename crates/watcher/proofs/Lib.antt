@@ -9,4 +9,5 @@ pub mod Refusing
 pub mod HeldLaws
 pub mod ShapeLaws
 pub mod RecordRows
+pub mod Breaking
 pub mod Examples

@@ -1,4 +1,4 @@
--- The rows of a rule's records: those of one record, shift by shift, and what each record adds to what rows may name.
+-- The rows of a rule's records: those of one record, shift by shift, and what each adds to what rows may name.
 -- Assumes nothing.
 use mathlib.Core.Path.{_≡_, refl, sym, ap, ap₂, _∙_, subst}
 use mathlib.Core.Bool.{Bool, true, false, _&&_, _||_, or-false}
@@ -107,15 +107,17 @@ one-some own h = omega (arith, one-shl own h, pow-pos own)
 forward-not : (d : Record) → 1 ≤ d .kind → d .kind < 6 → looksForward (nodeFor d) ≡ false
 unfolding looksForward nodeFor nodeOf
 forward-not d h l =
-    ⊎-elim (λ s. kind-quiet (λ x. looksForward x ≡ false) _ _ _ _ refl refl refl refl (d .kind) h l (λ e. omega arith))
+    ⊎-elim (λ s. quiet (λ e. omega arith))
     (λ s.
     ⊎-elim
     (λ u.
     let e : d .kind ≡ 3 = omega arith in
     ap (λ kind. looksForward (nodeOf kind (d .left) (d .right) (d .low) (d .high))) e)
-    (λ u. kind-quiet (λ x. looksForward x ≡ false) _ _ _ _ refl refl refl refl (d .kind) h l (λ e. omega arith))
-    (less-or-not (d .kind) 4))
+    (λ u. quiet (λ e. omega arith)) (less-or-not (d .kind) 4))
     (less-or-not (d .kind) 3)
+  where
+    quiet : (d .kind ≡ 3 → ⊥) → looksForward (nodeFor d) ≡ false
+    quiet = kind-quiet (λ x. looksForward x ≡ false) _ _ _ _ refl refl refl refl (d .kind) h l
 
 -- what rows of the next record may name
 module _ (here : Here) (m : ℕ) (placed : Placed m here) where
@@ -148,7 +150,7 @@ module _ (here : Here) (m : ℕ) (placed : Placed m here) where
       bit-or (here .allowed) own p ∙ ap (λ b. bit (here .allowed) p || b) (own-bits (here .first) (here .count) p)
       ∙ sym (bit-ofBits mostParameters _ p u ∙ rw looks))
     where
-      within : here .first + here .count ≤ 12
+      within : here .first + here .count ≤ mostParameters
       within = omega (arith, placed .few, placed .within)
 
       own : ℕ
@@ -189,7 +191,8 @@ pub before-next : (rule : List Node) (k : ℕ) (here : Here) (allowed : ℕ) →
     → allowed ≡ widened here → Before rule (k + 1) (here .first + here .count) allowed
 before-next rule k here allowed t e =
     subst (λ x. Before rule (k + 1) (here .first + here .count) x) (sym e)
-    (subst (λ x. Before rule x (here .first + here .count) (widened here)) (sym (add-one k)) (before-suc rule k here t))
+    (subst (λ x. Before rule x (here .first + here .count) (widened here)) (sym (add-one k))
+    (before-suc rule k here t))
 
 -- the records of a plan's rule
 module _ (list : List ℕ) (plan : Plan) where

@@ -47,8 +47,8 @@ pub zero-untested : (from j : ℕ) (b : Bool) → j < from → false ≡ (leb fr
 zero-untested from j b h = rw (lt-leb from j h)
 
 -- a number has a bit that another lacks exactly if it adds one
-other-bits : (a b : ℕ) → a < 2 ^ 12 → b < 2 ^ 12 → not (eqb (bitOr a b) b) ≡ some 12 (λ p. bit a p && not (bit b p))
-other-bits a b ha hb = go (some 12 lacks) refl
+other-bits : (n a b : ℕ) → a < 2 ^ n → b < 2 ^ n → not (eqb (bitOr a b) b) ≡ some n (λ p. bit a p && not (bit b p))
+other-bits n a b ha hb = go (some n lacks) refl
   where
     lacks : ℕ → Bool
     lacks p = bit a p && not (bit b p)
@@ -63,33 +63,34 @@ other-bits a b ha hb = go (some 12 lacks) refl
     inside true false e = e
     inside false y e = refl
 
-    go : (t : Bool) → some 12 lacks ≡ t → not (eqb (bitOr a b) b) ≡ some 12 lacks
+    go : (t : Bool) → some n lacks ≡ t → not (eqb (bitOr a b) b) ≡ some n lacks
     go true e =
         ap not
         (ne-eqb (bitOr a b) b
         (λ q.
         true≢false
-        (sym e
-        ∙ some-none 12 lacks (λ p h. joined (bit a p) (bit b p) (sym (bit-or a b p) ∙ ap (λ x. bit x p) q)))))
+        (sym e ∙ some-none n lacks (λ p h. joined (bit a p) (bit b p) (sym (bit-or a b p) ∙ ap (λ x. bit x p) q)))))
         ∙ sym e
     go false e =
         ap not
         (eq-eqb (bitOr a b) b
-        (same-bits 12 (bitOr a b) b (or-lt 12 a b ha hb) hb
-        (λ p h. bit-or a b p ∙ inside (bit a p) (bit b p) (none-at 12 lacks e p h))))
+        (same-bits n (bitOr a b) b (or-lt n a b ha hb) hb
+        (λ p h. bit-or a b p ∙ inside (bit a p) (bit b p) (none-at n lacks e p h))))
         ∙ sym e
 
-pub names-other : (m : ℕ) (f : Form m) (named allowed : ℕ) → allowed < 2 ^ 12 → named ≡ ofBits 12 (names m f)
+pub names-other : (m : ℕ) (f : Form m) (named allowed : ℕ) → allowed < 2 ^ mostParameters
+    → named ≡ ofBits mostParameters (names m f)
     → not (eqb (bitOr named allowed) allowed) ≡ some mostParameters (λ p. names m f p && not (bit allowed p))
 names-other m f named allowed h e =
+    let named-by = ofBits-lt mostParameters (names m f) in
     ap (λ x. not (eqb (bitOr x allowed) allowed)) e
-    ∙ other-bits (ofBits 12 (names m f)) allowed (ofBits-lt 12 (names m f)) h
-    ∙ fold-cong _||_ false 12 (λ p. bit (ofBits 12 (names m f)) p && not (bit allowed p))
+    ∙ other-bits mostParameters (ofBits mostParameters (names m f)) allowed named-by h
+    ∙ fold-cong _||_ false mostParameters (λ p. bit (ofBits mostParameters (names m f)) p && not (bit allowed p))
     (λ p. names m f p && not (bit allowed p))
-    (λ p l. ap (λ b. b && not (bit allowed p)) (bit-ofBits 12 (names m f) p l))
+    (λ p l. ap (λ b. b && not (bit allowed p)) (bit-ofBits mostParameters (names m f) p l))
 
 -- rows with the same words are those of the same form
-pub same-words : (m : ℕ) (f g : Form m) → m ≤ 12 → (a b : List ℕ) → a ≡ pack m f → b ≡ pack m g
+pub same-words : (m : ℕ) (f g : Form m) → m ≤ mostParameters → (a b : List ℕ) → a ≡ pack m f → b ≡ pack m g
     → every 64 (λ i. eqb (getD a i 0) (getD b i 0)) ≡ same m f g
 same-words m f g few a b ea eb = go (same m f g) refl
   where
@@ -119,8 +120,8 @@ same-words m f g few a b ea eb = go (same m f g) refl
     go false e = differ (every 64 words) refl e ∙ sym e
 
 -- the row of a record's shift, by the record's kind
-module _ (here : Here) (n m : ℕ) (last : Moment) (row : List ℕ) (few : m ≤ 12) (is : row ≡ pack m (unpack m row))
-    (rule : List Node) (k : ℕ) (t : Tells rule k here) where
+module _ (here : Here) (n m : ℕ) (last : Moment) (row : List ℕ) (few : m ≤ mostParameters)
+    (is : row ≡ pack m (unpack m row)) (rule : List Node) (k : ℕ) (t : Tells rule k here) where
   abbrev wrong : Node → Bool
   wrong d = wrongRow rule m (entryFor last) k n d (unpack m row)
 

@@ -1,6 +1,7 @@
 // What a state's lists hold: the parts of check 12 that read no row.
 use crate::refusals::check_lists;
 use crate::state::Found;
+use crate::state::Phase;
 use crate::state::Watcher;
 use ground::bytes::zeros_from;
 ghost use mathlib.Core.Path.{_≡_};
@@ -8,7 +9,8 @@ ghost use Prim.Native.Nat.{_≤_};
 ghost use lib.ListN.{length, take};
 ghost use Rattle.watcher.specs.Limits.{mostRecords, mostSignals};
 ghost use Rattle.watcher.specs.Lists.{listsRefusal};
-ghost use Rattle.watcher.specs.State.{isRefused, startRefuses, notZerosBehind};
+ghost use Rattle.watcher.specs.Numbers.{stageOf};
+ghost use Rattle.watcher.specs.State.{isRefused, startRefuses, notZerosBehind, signalsAbove};
 
 // Whether something is found.
 fn is_refused(found: Found) -> bool
@@ -58,4 +60,19 @@ pub(crate) fn not_zeros_behind(watcher: Watcher) -> bool
         return true;
     }
     !zeros_from(&list, Watcher::RECORD_BYTES * watcher.signals)
+}
+
+// Whether a running signal word has bits above a list of so many.
+pub(crate) fn signals_above(signals: usize, phase: Phase) -> bool
+    requires { ⌜ signals ≤ mostSignals ⌝ }
+    ensures { λ r. ⌜ r ≡ signalsAbove signals (stageOf phase) ⌝ }
+{
+    match phase {
+        Phase::Fresh => false,
+        Phase::Running {
+            time: _,
+            signals: word,
+        } => (1 << signals) <= word as usize,
+        Phase::Closed(_) => false,
+    }
 }

@@ -1,4 +1,4 @@
-// The watcher: its state with its limits, and the checks of rule list, signal list and log record.
+// The watcher: its state with its limits, and the checks of rule list, signal list, log record and state.
 mod held;
 mod lists;
 pub mod readings;

@@ -1,4 +1,8 @@
 // The rows that a state must have: the parts of check 12 that read the area.
+use crate::held::not_zeros_behind;
+use crate::held::signals_above;
+use crate::held::start_refuses;
+use crate::state::Phase;
 use crate::state::Watcher;
 use forms::area::load;
 use forms::rows::constant;
@@ -7,13 +11,14 @@ use forms::rows::names;
 use forms::rows::parameter;
 use rewriting::parts::signal;
 use rewriting::rule::count_at;
+use rewriting::rule::parameters_in;
 use rewriting::rule::record_at;
 use rewriting::step::Moment;
 use rewriting::step::Plan;
 use rewriting::step::Record;
 ghost use mathlib.Core.Path.{_≡_};
-ghost use mathlib.Core.Bool.{true, not, _&&_};
-ghost use Prim.Native.Nat.{_<_};
+ghost use mathlib.Core.Bool.{true, false, not, _&&_};
+ghost use Prim.Native.Nat.{_^_, _<_};
 ghost use lib.Dec.{eqb, leb};
 ghost use lib.ListN.{getD};
 ghost use Rattle.ground.specs.Fold.{every, some};
@@ -25,10 +30,12 @@ ghost use Rattle.forms.specs.Rows.{OfForm};
 ghost use Rattle.rewriting.specs.Known.{pastIn};
 ghost use Rattle.rewriting.specs.Plans.{Sound, ruleFor, entryFor};
 ghost use Rattle.watcher.specs.Limits.{mostParameters};
-ghost use Rattle.watcher.specs.State.{bitsAbove, zeroRow, notZeroFrom, wrongRows};
+ghost use Rattle.watcher.specs.Numbers.{stageOf};
+ghost use Rattle.watcher.specs.State.{parametersOf, startRefuses, bitsAbove, zeroRow, notZeroFrom};
+ghost use Rattle.watcher.specs.State.{wrongRows, wrongInPhase, brokenState};
 ghost use Rattle.watcher.specs.Shapes.{Before, Tells, Placed, Fitting, widened, RowWrong, RecordWrong};
 
-// A record of the rule, with its first parameter, how many it has, and the parameters that its rows may name, as bits.
+// A record of the rule, its first parameter, how many it has, and the parameters that its rows may name, as bits.
 pub(crate) struct Here {
     pub(crate) record: Record,
     pub(crate) first: usize,
@@ -99,7 +106,7 @@ pub(crate) fn not_zero_from(from: usize, area: &[u64]) -> bool
 
 // Whether the row names a parameter that is not among the allowed ones.
 fn names_other(row: [u64; 64], allowed: usize) -> bool
-    requires { ⌜ allowed < 4096 ⌝ }
+    requires { ⌜ allowed < 2 ^ mostParameters ⌝ }
     ensures { λ r. ⌜ OfForm (λ m f. some mostParameters (λ p. namesOf m f p && not (bit allowed p))) row r ⌝ }
 {
     let named = names(row);
@@ -145,14 +152,16 @@ fn widen(here: Here, m: usize) -> usize
     ensures { λ r. ⌜ r ≡ widened here ⌝ }
 {
     let kind = here.record.kind;
-    if kind < 6 {
-        return here.allowed;
+    if 6 <= kind {
+        if kind < 8 {
+            let own = (1 << here.count) - 1;
+            here.allowed | (own << here.first)
+        } else {
+            here.allowed
+        }
+    } else {
+        here.allowed
     }
-    if 8 <= kind {
-        return here.allowed;
-    }
-    let own = (1 << here.count) - 1;
-    here.allowed | (own << here.first)
 }
 
 // Record k of the rule, from what was counted before it.
@@ -185,4 +194,54 @@ pub(crate) fn wrong_rows(rule: &[u8], plan: Plan, last: Moment, area: &[u64]) ->
         first = here.first + here.count;
     }
     false
+}
+
+// Whether a row is not what it must be in the state's phase.
+fn wrong_in_phase(watcher: Watcher, m: usize, area: &[u64]) -> bool
+    requires { ⌜ (startRefuses watcher ≡ false) × (m ≡ parametersOf watcher) × (bitsAbove m (now area) ≡ false) ⌝ }
+    ensures { λ r. ⌜ r ≡ wrongInPhase watcher (now (area .entry)) (stageOf (watcher .phase)) ⌝ }
+{
+    let rule = watcher.rule;
+    let phase = watcher.phase;
+    match phase {
+        Phase::Fresh => not_zero_from(0, area),
+        Phase::Running { time, signals } => {
+            let plan = Plan {
+                records: watcher.records,
+                m: m,
+                places: Watcher::PARAMETERS,
+            };
+            let last = Moment {
+                time: time,
+                signals: signals,
+            };
+            wrong_rows(&rule, plan, last, area)
+        }
+        Phase::Closed(_) => false,
+    }
+}
+
+// Whether the state that is handed in is broken: refusal 12.
+pub(crate) fn broken_state(watcher: Watcher, area: &[u64]) -> bool
+    ensures { λ r. ⌜ r ≡ brokenState watcher (now (area .entry)) ⌝ }
+{
+    if start_refuses(watcher) {
+        return true;
+    }
+    if not_zeros_behind(watcher) {
+        return true;
+    }
+    let phase = watcher.phase;
+    if signals_above(watcher.signals, phase) {
+        return true;
+    }
+    let rule = watcher.rule;
+    let m = parameters_in(&rule, watcher.records);
+    if bits_above(m, area) {
+        return true;
+    }
+    if not_zero_from(m, area) {
+        return true;
+    }
+    wrong_in_phase(watcher, m, area)
 }

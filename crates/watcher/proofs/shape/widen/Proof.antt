@@ -6,12 +6,6 @@ use Rattle.watcher.proofs.RecordRows.{one-some, widen-before, widen-aft
 use Rattle.watcher.proofs.shape.widen.Statement.{statement}
 use Rattle.watcher.proofs.shape.widen.Tie as tie
 
-returns : tie.Need-returns
-returns c = widen-before _ _ (c .before .pre) (c .if1 .taken)
-
-returns-2 : tie.Need-returns-2
-returns-2 c = widen-after _ _ (c .before .before .pre) (c .if2 .taken)
-
 shl-own : tie.Need-shl-own
 shl-own c = search needs
 
@@ -21,10 +15,16 @@ sub-own c = let p = c .before .before .before .pre in one-some _ (omega (arith, 
 shl-result : tie.Need-shl-result
 shl-result c = search needs
 
-returns-3 : tie.Need-returns-3
-returns-3 c =
+returns : tie.Need-returns
+returns c =
     let q = c .before .before .before in
-    widen-own _ _ (q .before .before .pre) (q .before .if1 .left) (q .if2 .left)
+    widen-own _ _ (q .before .before .pre) (omega (arith, q .before .if1 .taken)) (q .if2 .taken)
+
+returns-2 : tie.Need-returns-2
+returns-2 c = widen-after _ _ (c .before .before .pre) (c .if2 .left)
+
+returns-3 : tie.Need-returns-3
+returns-3 c = widen-before _ _ (c .before .pre) (omega (arith, c .if1 .left))
 
 pub widen-spec : {M : Type 1} → statement M
-widen-spec = tie.close (tie.spec returns returns-2 shl-own sub-own shl-result returns-3)
+widen-spec = tie.close (tie.spec shl-own sub-own shl-result returns returns-2 returns-3)
