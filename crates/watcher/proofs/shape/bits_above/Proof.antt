@@ -29,7 +29,7 @@ row-above-requires c κs = search needs
 returns : tie.Need-returns Inv-loop μ-loop
 unfolding bitsAbove
 returns c =
-    sym (some-at (mostParameters + 1) _ _ (c .before .before .loop-test .taken)
+    sym (some-at (mostParameters + 1) _ _ (omega (arith, c .before .before .loop-test .taken))
     (sym (c .before .row-above .ensures) ∙ c .if1 .taken))
 
 add-j : tie.Need-add-j Inv-loop μ-loop
