@@ -3,7 +3,7 @@ mod derived;
 pub mod ending;
 mod form;
 mod interval;
-mod parts;
+pub mod parts;
 mod past;
 pub mod rewrite;
 pub mod rule;

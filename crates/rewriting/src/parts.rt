@@ -81,7 +81,7 @@ pub(crate) fn only_row(test: bool, area: &[u64], count: usize, j: usize) -> [u64
 }
 
 // Whether a signal holds, from the word of all of them.
-pub(crate) fn signal(signals: u16, s: u8) -> bool
+pub fn signal(signals: u16, s: u8) -> bool
     ensures { λ r. ⌜ r ≡ bit signals s ⌝ }
 {
     if s < 16 {

@@ -7,4 +7,8 @@ pub mod Decoded
 pub mod Checking
 pub mod Refusing
 pub mod Horizons
+pub mod HeldLaws
+pub mod ShapeLaws
+pub mod RecordRows
+pub mod Breaking
 pub mod Examples

@@ -9,3 +9,4 @@ pub mod State
 pub mod Calls
 pub mod Examples
 pub mod Horizons
+pub mod Shapes

@@ -1,0 +1,118 @@
+-- What each way through check 12 finds.
+-- Assumes nothing.
+use mathlib.Core.Path.{_≡_, ap, sym, _∙_}
+use mathlib.Core.Bool.{Bool, true, false, not}
+use mathlib.Core.List.{List}
+use Prim.Native.Nat.{ℕ, _+_, _*_, _%_, _^_, _≤_, _<_}
+use native.Mathlib.Nat.{le-refl}
+use native.Mathlib.Omega.{arith}
+use borrow.Author.Tests.{not-false}
+use lib.Dec.{leb}
+use lib.ListN.{length}
+use Rattle.ground.proofs.Folds.{none-at}
+use Rattle.ground.proofs.Bits.{one-shl}
+use Rattle.forms.specs.Words.{fits}
+use Rattle.forms.specs.Area.{rowAt}
+use Rattle.meaning.specs.Rule.{parameters}
+use Rattle.rewriting.specs.Decode.{ruleIn}
+use Rattle.rewriting.specs.Known.{pastIn}
+use Rattle.rewriting.specs.Plans.{Sound}
+use Rattle.watcher.specs.declared.state.Watcher.{Watcher}
+use Rattle.watcher.specs.declared.state.Phase.{Phase}
+use Rattle.watcher.specs.declared.state.Phase.the-variants.{Fresh, Running, Closed}
+use Rattle.watcher.specs.declared.state.Verdict.{Verdict}
+use Rattle.watcher.specs.Limits.{mostParameters, listBytes}
+use Rattle.watcher.specs.Numbers.{stageOf}
+use Rattle.watcher.specs.State.{ruleOf, parametersOf, startRefuses, notZerosBehind, signalsAbove, bitsAbove}
+use Rattle.watcher.specs.State.{notZeroFrom, wrongRows, wrongInPhase, brokenState}
+use Rattle.watcher.specs.Shapes.{Fitting}
+use Rattle.watcher.proofs.HeldLaws.{held-some, held-most, held-kinds, held-few}
+
+-- the bits of a running signal word, by the phase
+module _ (signals : ℕ) (p : Phase) where
+  pub above-fresh : p ≡ Fresh → false ≡ signalsAbove signals (stageOf p)
+  unfolding signalsAbove stageOf
+  above-fresh e = rw e
+
+  pub above-running : (time word : ℕ) → p ≡ Running time word → signals < 64
+      → leb ((1 * 2 ^ signals) % 2 ^ 64) word ≡ signalsAbove signals (stageOf p)
+  unfolding signalsAbove stageOf
+  above-running time word e h = rw e (ap (λ x. leb x word) (one-shl signals h))
+
+  pub above-closed : (v : Verdict) → p ≡ Closed v → false ≡ signalsAbove signals (stageOf p)
+  unfolding signalsAbove stageOf
+  above-closed v e = rw e
+
+-- the rows, by the phase
+module _ (w : Watcher) (ws : List ℕ) where
+  pub phase-fresh : (r : Bool) → w .phase ≡ Fresh → r ≡ notZeroFrom 0 ws
+      → r ≡ wrongInPhase w ws (stageOf (w .phase))
+  unfolding wrongInPhase stageOf
+  phase-fresh r e q = rw e q
+
+  pub phase-running : (m time signals : ℕ) (r : Bool) → w .phase ≡ Running time signals → m ≡ parametersOf w
+      → r ≡ wrongRows (ruleIn (w .rule) (w .records)) m (record { time = time; signals = signals }) (pastIn m ws)
+      → r ≡ wrongInPhase w ws (stageOf (w .phase))
+  unfolding wrongInPhase stageOf ruleOf
+  phase-running m time signals r e own q =
+      q ∙ ap (λ n. wrongRows (ruleOf w) n (record { time = time; signals = signals }) (pastIn n ws)) own
+      ∙ ap (λ p. wrongInPhase w ws (stageOf p)) (sym e)
+
+  pub phase-closed : (v : Verdict) → w .phase ≡ Closed v → false ≡ wrongInPhase w ws (stageOf (w .phase))
+  unfolding wrongInPhase stageOf
+  phase-closed v e = rw e
+
+-- what the rows' check asks for
+pub fitting : (m : ℕ) (ws : List ℕ) → m ≤ mostParameters → bitsAbove m ws ≡ false → Fitting m ws
+unfolding bitsAbove
+fitting m ws few e j h =
+    not-false _ (none-at (mostParameters + 1) (λ i. not (fits m (rowAt ws i))) e j (omega arith))
+
+pub sound : (w : Watcher) (m : ℕ) → length (w .rule) ≡ listBytes → startRefuses w ≡ false → m ≡ parametersOf w
+    → Sound (w .rule) (record { records = w .records; m = m; places = mostParameters })
+unfolding parametersOf ruleOf
+sound w m long fine e =
+    record {
+      some = held-some w fine long;
+      most = omega (arith, held-most w fine);
+      kinds = held-kinds w fine long;
+      own = e;
+      few = omega (arith, e, held-few w fine long);
+      room = le-refl mostParameters;
+    }
+
+-- the parameters of its rule, counted
+pub own-parameters : (w : Watcher) (m : ℕ) → m ≡ parameters (ruleIn (w .rule) (w .records)) → m ≡ parametersOf w
+unfolding parametersOf ruleOf
+own-parameters w m e = e
+
+-- the tests, in the definition's order
+module _ (w : Watcher) (ws : List ℕ) where
+  pub broken-lists : startRefuses w ≡ true → true ≡ brokenState w ws
+  unfolding brokenState
+  broken-lists a = rw a
+
+  module _ (a : startRefuses w ≡ false) where
+    pub broken-behind : notZerosBehind w ≡ true → true ≡ brokenState w ws
+    unfolding brokenState
+    broken-behind b = rw (a, b)
+
+    module _ (b : notZerosBehind w ≡ false) where
+      pub broken-signals : signalsAbove (w .signals) (stageOf (w .phase)) ≡ true → true ≡ brokenState w ws
+      unfolding brokenState
+      broken-signals c = rw (a, b, c)
+
+      module _ (c : signalsAbove (w .signals) (stageOf (w .phase)) ≡ false) (m : ℕ) (own : m ≡ parametersOf w) where
+        pub broken-bits : bitsAbove m ws ≡ true → true ≡ brokenState w ws
+        unfolding brokenState
+        broken-bits d = rw (a, b, c, ← own, d)
+
+        module _ (d : bitsAbove m ws ≡ false) where
+          pub broken-unused : notZeroFrom m ws ≡ true → true ≡ brokenState w ws
+          unfolding brokenState
+          broken-unused e = rw (a, b, c, ← own, d, e)
+
+          pub broken-phase : (r : Bool) → notZeroFrom m ws ≡ false → r ≡ wrongInPhase w ws (stageOf (w .phase))
+              → r ≡ brokenState w ws
+          unfolding brokenState
+          broken-phase r e f = rw (a, b, c, ← own, d, e) f

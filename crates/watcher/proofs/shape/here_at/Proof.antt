@@ -1,0 +1,24 @@
+-- `shape::here_at` reads the record's bytes and counts its parameters.
+-- Assumes nothing.
+use borrow.Author.Needs.{needs}
+use Rattle.watcher.proofs.RecordRows.{tells, placed}
+use Rattle.watcher.proofs.shape.here_at.Statement.{statement}
+use Rattle.watcher.proofs.shape.here_at.Tie as tie
+
+record-at-requires : tie.Need-record-at-requires
+record-at-requires c κs = search needs
+
+count-at-requires : tie.Need-count-at-requires
+count-at-requires c κs = search needs
+
+returns : tie.Need-returns
+returns c =
+    let q = c .before .before .before in
+    let list = q .args .rule .now in
+    let t =
+    tells list (q .args .plan) _ _ (q .pre .1) (c .before .record-at .ensures .0) (c .count-at .ensures .0)
+    (q .pre .2) in
+    (t, placed list (q .args .plan) (q .pre .0) _ _ (q .pre .1) t (c .before .record-at .ensures .1))
+
+pub here-at-spec : {M : Type 1} → statement M
+here-at-spec = tie.close (tie.spec record-at-requires count-at-requires returns)
