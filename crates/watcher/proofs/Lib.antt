@@ -7,3 +7,9 @@ pub mod Decoded
 pub mod Checking
 pub mod Refusing
 pub mod Examples
+pub mod Padding
+pub mod OwnRows
+pub mod OwnStates
+pub mod Feeding
+pub mod Logs
+pub mod Runs

@@ -7,4 +7,5 @@ pub mod Lists
 pub mod Numbers
 pub mod State
 pub mod Calls
+pub mod Runs
 pub mod Examples

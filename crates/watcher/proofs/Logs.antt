@@ -1,0 +1,122 @@
+-- Logs of accepted records: their times never fall, and what is known after one is as refusal 12 asks.
+-- Assumes nothing.
+use mathlib.Core.Path.{_≡_, refl, sym, ap, _∙_, subst}
+use mathlib.Core.Bool.{Bool, true, false, cond}
+use mathlib.Core.List.{List, [], _∷_, _++_}
+use Prim.Native.Nat.{ℕ, _+_, _-_, _^_, _<_}
+use native.Mathlib.Omega.{arith}
+use lib.ListN.{length, length-append}
+use lib.Seq.{getD-append-seam}
+use Rattle.meaning.specs.Rule.{Node, Entry, entryAt, timeAt, parameters}
+use Rattle.meaning.specs.Rewriting.{none, at, derivedRows}
+use Rattle.meaning.specs.Words.{Known, first, feed, fed, after}
+use Rattle.meaning.proofs.Blocks.{length-pastRows, firstOf-fits}
+use Rattle.meaning.proofs.Shapes.{first-shape, feed-shape}
+use Rattle.meaning.proofs.Settling.{Climbs, last-after}
+use Rattle.watcher.specs.Rules.{recordsOf}
+use Rattle.watcher.specs.Records.{timeOf, entryOf}
+use Rattle.watcher.specs.Runs.{accepts, acceptedAfter}
+use Rattle.watcher.specs.Runs.{lastTime, ruleFor, parametersFor}
+use Rattle.watcher.proofs.Padding.{entry-below}
+use Rattle.watcher.proofs.OwnStates.{Lawful}
+use Rattle.watcher.proofs.Feeding.{Judged, taken, wrong, early, judge}
+
+-- no signal past so many holds in any record of a log
+abbrev pub Below : ℕ → List Entry → Type 0
+Below c [] = Unit {0}
+Below c (e ∷ es) = (e .signals < 2 ^ c) × Below c es
+
+pub below-more : (c : ℕ) (log more : List Entry) → Below c log → Below c more → Below c (log ++ more)
+below-more c [] more a b = b
+below-more c (e ∷ es) more a b = (a .0, below-more c es more (a .1) b)
+
+-- one record more
+pub fed-more : (m : ℕ) (rule : List Node) (s : Known m) (es : List Entry) (e : Entry)
+    → fed m rule s (es ++ (e ∷ [])) ≡ feed m rule (fed m rule s es) e
+unfolding fed
+fed-more m rule s [] e = refl
+fed-more m rule s (d ∷ es) e = fed-more m rule (feed m rule s d) es e
+
+pub last-more : (log : List Entry) (e : Entry) → lastTime (log ++ (e ∷ [])) ≡ e .time
+unfolding lastTime timeAt entryAt
+last-more log e =
+    let q : length (log ++ (e ∷ [])) - 1 ≡ length log = omega (arith, length-append log (e ∷ [])) in
+    ap (λ i. timeAt (log ++ (e ∷ [])) i) q
+    ∙ ap (λ (x : Entry). x .time) (getD-append-seam log e [] (record { time = 0; signals = 0 }))
+
+pub last-known : (m : ℕ) (rule : List Node) (e : Entry) (es : List Entry)
+    → (after m rule e es) .last .time ≡ lastTime (e ∷ es)
+unfolding lastTime timeAt
+last-known m rule e es =
+    let q : length es ≡ length (e ∷ es) - 1 = omega arith in
+    ap (λ (x : Entry). x .time) (last-after m rule e es) ∙ ap (λ i. timeAt (e ∷ es) i) q
+
+module _ (rule signals : List ℕ) where
+  first-lawful : (e : Entry) → e .signals < 2 ^ recordsOf signals
+      → Lawful rule signals (first (parametersFor rule) (ruleFor rule) e)
+  unfolding first parametersFor parameters
+  first-lawful e h =
+      record {
+        long = length-pastRows (parametersFor rule) (ruleFor rule) [] e none (length (ruleFor rule));
+        shape = first-shape (ruleFor rule) (parametersFor rule) (firstOf-fits (ruleFor rule)) e;
+        below = h;
+      }
+
+  feed-lawful : (s : Known (parametersFor rule)) (e : Entry) → e .signals < 2 ^ recordsOf signals
+      → Lawful rule signals (feed (parametersFor rule) (ruleFor rule) s e)
+  unfolding feed parametersFor parameters
+  feed-lawful s e h =
+      record {
+        long =
+            length-pastRows (parametersFor rule) (ruleFor rule)
+            (derivedRows (parametersFor rule) (ruleFor rule) (s .past) (s .last) (at (e .time))
+            (length (ruleFor rule)))
+            e (at (s .last .time)) (length (ruleFor rule));
+        shape = feed-shape (ruleFor rule) (parametersFor rule) (firstOf-fits (ruleFor rule)) s e;
+        below = h;
+      }
+
+  -- what is known after a log is lawful
+  pub after-lawful : (e : Entry) (es : List Entry) → Below (recordsOf signals) (e ∷ es)
+      → Lawful rule signals (after (parametersFor rule) (ruleFor rule) e es)
+  unfolding after fed
+  after-lawful e es b = go es (first (parametersFor rule) (ruleFor rule) e) (first-lawful e (b .0)) (b .1)
+    where
+      go : (es : List Entry) (s : Known (parametersFor rule)) → Lawful rule signals s → Below (recordsOf signals) es
+          → Lawful rule signals (fed (parametersFor rule) (ruleFor rule) s es)
+      go [] s ok b = ok
+      go (e ∷ es) s ok b = go es (feed (parametersFor rule) (ruleFor rule) s e) (feed-lawful s e (b .0)) (b .1)
+
+-- the accepted records: times never fall, and signals stay within the list
+pub accepted-climbs : (signals : List ℕ) (last : ℕ) (records : List (List ℕ))
+    → Climbs last (acceptedAfter signals last records)
+unfolding acceptedAfter entryOf
+accepted-climbs signals last [] = tt
+accepted-climbs signals last (bytes ∷ more) =
+    go (judge last bytes) (accepted-climbs signals last more) (accepted-climbs signals (timeOf bytes) more)
+  where
+    rest : Bool → List Entry
+    rest b =
+        cond b (entryOf signals (recordsOf signals) bytes ∷ acceptedAfter signals (timeOf bytes) more)
+        (acceptedAfter signals last more)
+
+    go : Judged last bytes → Climbs last (acceptedAfter signals last more)
+        → Climbs (timeOf bytes) (acceptedAfter signals (timeOf bytes) more) → Climbs last (rest (accepts last bytes))
+    go (taken a w h) x y = subst (λ b. Climbs last (rest b)) (sym a) (h, y)
+    go (wrong a w) x y = subst (λ b. Climbs last (rest b)) (sym a) x
+    go (early a w h) x y = subst (λ b. Climbs last (rest b)) (sym a) x
+
+pub accepted-below : (signals : List ℕ) (last : ℕ) (records : List (List ℕ))
+    → Below (recordsOf signals) (acceptedAfter signals last records)
+unfolding acceptedAfter
+accepted-below signals last [] = tt
+accepted-below signals last (bytes ∷ more) =
+    go (accepts last bytes) (accepted-below signals last more) (accepted-below signals (timeOf bytes) more)
+  where
+    go : (b : Bool) → Below (recordsOf signals) (acceptedAfter signals last more)
+        → Below (recordsOf signals) (acceptedAfter signals (timeOf bytes) more)
+        → Below (recordsOf signals)
+        (cond b (entryOf signals (recordsOf signals) bytes ∷ acceptedAfter signals (timeOf bytes) more)
+        (acceptedAfter signals last more))
+    go true x y = (entry-below signals (recordsOf signals) bytes, y)
+    go false x y = x
