@@ -13,3 +13,6 @@ pub mod OwnStates
 pub mod Feeding
 pub mod Logs
 pub mod Runs
+pub mod OwnWork
+pub mod Decided
+pub mod Demands

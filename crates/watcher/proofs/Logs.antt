@@ -15,7 +15,7 @@ use Rattle.meaning.proofs.Shapes.{first-shape, feed-shape}
 use Rattle.meaning.proofs.Settling.{Climbs, last-after}
 use Rattle.watcher.specs.Rules.{recordsOf}
 use Rattle.watcher.specs.Records.{timeOf, entryOf}
-use Rattle.watcher.specs.Runs.{accepts, acceptedAfter}
+use Rattle.watcher.specs.Runs.{accepts, acceptedAfter, acceptedLog}
 use Rattle.watcher.specs.Runs.{lastTime, ruleFor, parametersFor}
 use Rattle.watcher.proofs.Padding.{entry-below}
 use Rattle.watcher.proofs.OwnStates.{Lawful}
@@ -30,12 +30,12 @@ pub below-more : (c : ℕ) (log more : List Entry) → Below c log → Below c m
 below-more c [] more a b = b
 below-more c (e ∷ es) more a b = (a .0, below-more c es more (a .1) b)
 
--- one record more
-pub fed-more : (m : ℕ) (rule : List Node) (s : Known m) (es : List Entry) (e : Entry)
-    → fed m rule s (es ++ (e ∷ [])) ≡ feed m rule (fed m rule s es) e
+-- more records
+pub fed-more : (m : ℕ) (rule : List Node) (s : Known m) (es more : List Entry)
+    → fed m rule s (es ++ more) ≡ fed m rule (fed m rule s es) more
 unfolding fed
-fed-more m rule s [] e = refl
-fed-more m rule s (d ∷ es) e = fed-more m rule (feed m rule s d) es e
+fed-more m rule s [] more = refl
+fed-more m rule s (d ∷ es) more = fed-more m rule (feed m rule s d) es more
 
 pub last-more : (log : List Entry) (e : Entry) → lastTime (log ++ (e ∷ [])) ≡ e .time
 unfolding lastTime timeAt entryAt
@@ -120,3 +120,53 @@ accepted-below signals last (bytes ∷ more) =
         (acceptedAfter signals last more))
     go true x y = (entry-below signals (recordsOf signals) bytes, y)
     go false x y = x
+
+-- the time of the last record of a log, after time t
+abbrev lastFrom : ℕ → List Entry → ℕ
+lastFrom t [] = t
+lastFrom t (e ∷ es) = lastFrom (e .time) es
+
+last-from : (e : Entry) (es : List Entry) → lastFrom (e .time) es ≡ timeAt (e ∷ es) (length es)
+unfolding timeAt entryAt
+last-from e [] = refl
+last-from e (d ∷ es) = last-from d es
+
+last-is : (log : List Entry) → lastFrom 0 log ≡ lastTime log
+unfolding lastTime timeAt entryAt
+last-is [] = refl
+last-is (e ∷ es) =
+    let q : length es ≡ length (e ∷ es) - 1 = omega arith in last-from e es ∙ ap (λ i. timeAt (e ∷ es) i) q
+
+-- the accepted records of two parts: of the first, and of the second after the last of these
+accepted-parts : (signals : List ℕ) (t : ℕ) (records more : List (List ℕ))
+    → acceptedAfter signals t (records ++ more)
+    ≡ acceptedAfter signals t records ++ acceptedAfter signals (lastFrom t (acceptedAfter signals t records)) more
+unfolding acceptedAfter entryOf
+accepted-parts signals t [] more = refl
+accepted-parts signals t (bytes ∷ rest) more =
+    go (accepts t bytes) (accepted-parts signals t rest more) (accepted-parts signals (timeOf bytes) rest more)
+  where
+    e : Entry
+    e = entryOf signals (recordsOf signals) bytes
+
+    go : (b : Bool)
+        → acceptedAfter signals t (rest ++ more)
+        ≡ acceptedAfter signals t rest ++ acceptedAfter signals (lastFrom t (acceptedAfter signals t rest)) more
+        → acceptedAfter signals (timeOf bytes) (rest ++ more)
+        ≡ acceptedAfter signals (timeOf bytes) rest
+        ++ acceptedAfter signals (lastFrom (timeOf bytes) (acceptedAfter signals (timeOf bytes) rest)) more
+        → cond b (e ∷ acceptedAfter signals (timeOf bytes) (rest ++ more)) (acceptedAfter signals t (rest ++ more))
+        ≡ cond b (e ∷ acceptedAfter signals (timeOf bytes) rest) (acceptedAfter signals t rest)
+        ++ acceptedAfter signals
+        (lastFrom t (cond b (e ∷ acceptedAfter signals (timeOf bytes) rest) (acceptedAfter signals t rest))) more
+    go true x y = ap (λ es. e ∷ es) y
+    go false x y = x
+
+pub accepted-more : (signals : List ℕ) (records more : List (List ℕ))
+    → acceptedLog signals (records ++ more)
+    ≡ acceptedLog signals records ++ acceptedAfter signals (lastTime (acceptedLog signals records)) more
+unfolding acceptedLog
+accepted-more signals records more =
+    accepted-parts signals 0 records more
+    ∙ ap (λ t. acceptedAfter signals 0 records ++ acceptedAfter signals t more)
+    (last-is (acceptedAfter signals 0 records))
