@@ -11,23 +11,27 @@ use Rattle.forms.proofs.Reading.{same-refl, same-not, constants-differ}
 use Rattle.meaning.specs.Rule.{Ordered, Entry, entryAt, timeAt, Rising}
 use Rattle.meaning.specs.Meaning.{valueOf}
 use Rattle.meaning.specs.Horizon.{within, never, horizon}
-use Rattle.meaning.specs.Words.{Known, first, feed, fed, valueIfLast, after, word}
+use Rattle.meaning.specs.Words.{Known, first, feed, fed, close, valueIfLast, after, word}
+use Rattle.meaning.specs.Words as words
 use Rattle.meaning.proofs.Blocks.{firstOf-fits}
-use Rattle.meaning.proofs.Theorems.{wordOf, close-value, word-decides, decided-stays}
+use Rattle.meaning.proofs.Theorems.{wordOf, close-value, close-word, word-decides, decided-stays}
 use Rattle.meaning.proofs.Horizons.{AllFinite, finite-horizon}
 use Rattle.meaning.proofs.Settling.{Climbs, climbs-rising, settled-word}
 use Rattle.watcher.specs.declared.state.Phase.{Phase}
 use Rattle.watcher.specs.declared.state.Phase.the-variants as phase
 use Rattle.watcher.specs.declared.state.End.the-variants as end
+use Rattle.rewriting.specs.Known.{formAt}
+use Rattle.rewriting.proofs.Placed.{read-remainder}
+use Rattle.watcher.specs.Limits.{mostParameters}
 use Rattle.watcher.specs.Rules.{recordsOf}
 use Rattle.watcher.specs.Numbers.{verdictFor}
 use Rattle.watcher.specs.Calls.{freshState, runningState, waitOf}
-use Rattle.watcher.specs.Runs.{endOf, acceptedAfter, acceptedLog}
+use Rattle.watcher.specs.Runs.{Held, closedOne, endOf, acceptedAfter, acceptedLog}
 use Rattle.watcher.specs.Runs.{lastTime, ruleFor, parametersFor, heldAfter, heldKnown, wordAfter}
 use Rattle.watcher.proofs.Decoded.{Accepted, accepted-ordered, accepted-some}
-use Rattle.watcher.proofs.OwnStates.{stateIn, rule-in, lists-in}
+use Rattle.watcher.proofs.OwnStates.{stateIn, rule-in, few-parameters, lists-in}
 use Rattle.watcher.proofs.Logs.{Below, fed-more, accepted-climbs, last-known}
-use Rattle.watcher.proofs.OwnWork.{close-some}
+use Rattle.watcher.proofs.OwnWork.{shutAt, close-some}
 
 -- what holds of the rule in accepted lists
 module _ (rule signals : List ℕ) (fine : Accepted rule signals) where
@@ -97,6 +101,34 @@ module _ (rule signals : List ℕ) (fine : Accepted rule signals) where
   log-settled (e ∷ es) long rising h limit past =
       settled-word (ruleFor rule) rule-ordered (parametersFor rule) (firstOf-fits (ruleFor rule)) rule-some e es
       rising h limit (subst (λ t. e .time + h < t) (sym (last-known (parametersFor rule) (ruleFor rule) e es)) past)
+
+  -- the area tells the word
+  pub word-in-area : (log : List Entry)
+      → word (parametersFor rule) (formAt (parametersFor rule) (heldAfter rule signals log .area) mostParameters)
+      ≡ wordAfter rule log
+  unfolding heldAfter heldKnown wordAfter
+  word-in-area [] =
+      ap (word (parametersFor rule))
+      (read-remainder mostParameters (parametersFor rule) [] (words.start (parametersFor rule) (ruleFor rule))
+      (few-parameters rule signals fine))
+  word-in-area (e ∷ es) =
+      let s : Known (parametersFor rule) = after (parametersFor rule) (ruleFor rule) e es in
+      ap (word (parametersFor rule))
+      (read-remainder mostParameters (parametersFor rule) (s .past) (s .remainder) (few-parameters rule signals fine))
+
+  -- and after closing the value
+  pub word-closed : (e : Entry) (es : List Entry) → Rising (e ∷ es) → Below (recordsOf signals) (e ∷ es)
+      → word (parametersFor rule)
+      (formAt (parametersFor rule) (closedOne (heldAfter rule signals (e ∷ es)) .area) mostParameters)
+      ≡ wordOf (valueOf (e ∷ es) (ruleFor rule))
+  unfolding shutAt parametersFor
+  word-closed e es rising below =
+      let m : ℕ = parametersFor rule in
+      let s : Known m = after m (ruleFor rule) e es in
+      ap (λ (h : Held). word m (formAt m (h .area) mostParameters)) (close-some rule signals fine e es below .1)
+      ∙ ap (word m)
+      (read-remainder mostParameters m (s .past) (close m (ruleFor rule) s) (few-parameters rule signals fine))
+      ∙ close-word (ruleFor rule) rule-ordered m (firstOf-fits (ruleFor rule)) rule-some e es rising
 
   -- closing says the log's value
   pub log-closes : (log : List Entry) → 0 < length log → Rising log → Below (recordsOf signals) log

@@ -16,3 +16,5 @@ pub mod Runs
 pub mod OwnWork
 pub mod Decided
 pub mod Demands
+pub mod ExampleRuns
+pub mod BadWatchers

@@ -6,7 +6,7 @@ use mathlib.Core.List.{List, [], _∷_, _++_}
 use Prim.Native.Nat.{ℕ, _*_, _^_, _≤_, _<_}
 use native.Mathlib.Omega.{arith}
 use lib.ListN.{length, take}
-use borrow.Author.Tests.{le-ltb, lt-leb, eqb-true, not-false}
+use borrow.Author.Tests.{le-ltb, lt-leb, eq-eqb, eqb-true, not-false}
 use Rattle.forms.specs.Form.{Form}
 use Rattle.meaning.specs.Rule.{parameters}
 use Rattle.meaning.specs.Words.{Known}
@@ -16,6 +16,7 @@ use Rattle.watcher.specs.declared.state.Watcher.{Watcher}
 use Rattle.watcher.specs.declared.state.Phase.{Phase}
 use Rattle.watcher.specs.declared.state.Phase.the-variants as phase
 use Rattle.watcher.specs.declared.state.Verdict.{Verdict}
+use Rattle.watcher.specs.declared.state.Refusal.the-variants.{AreaLength}
 use Rattle.watcher.specs.declared.state.Found.the-variants.{Fine, Refused}
 use Rattle.watcher.specs.Limits.{mostRecords, mostSignals, mostParameters, listBytes, areaWords}
 use Rattle.watcher.specs.Rules.{recordsOf}
@@ -34,7 +35,7 @@ use Rattle.watcher.proofs.Padding.{take-padded, zeros-padded, rule-padd
 use Rattle.watcher.proofs.OwnRows.{bits-fine, unused-fine, rows-fine}
 
 -- tests one after another
-pub first-split : (ts us : List Test) → firstRefusal (ts ++ us) ≡ Fine
+first-split : (ts us : List Test) → firstRefusal (ts ++ us) ≡ Fine
     → (firstRefusal ts ≡ Fine) × (firstRefusal us ≡ Fine)
 unfolding firstRefusal
 first-split [] us e = (refl, e)
@@ -43,7 +44,21 @@ first-split (t ∷ ts) us e =
     let b = first-split ts us (a .1) in
     (ap (λ x. cond x (Refused (t .gives)) (firstRefusal ts)) (a .0) ∙ b .0, b .1)
 
--- start accepts lists that pass, and an area of 1,664 words
+first-join : (ts us : List Test) → firstRefusal ts ≡ Fine → firstRefusal (ts ++ us) ≡ firstRefusal us
+unfolding firstRefusal
+first-join [] us e = refl
+first-join (t ∷ ts) us e =
+    let a = first-fine (t .holds) (t .gives) (firstRefusal ts) e in
+    ap (λ x. cond x (Refused (t .gives)) (firstRefusal (ts ++ us))) (a .0) ∙ first-join ts us (a .1)
+
+-- start accepts lists that pass with an area of 1,664 words, and nothing else
+pub start-accepts : (rule signals ws : List ℕ) → listsRefusal rule signals ≡ Fine → length ws ≡ areaWords
+    → startRefusal rule signals ws ≡ Fine
+unfolding startRefusal wrongArea listsRefusal firstRefusal
+start-accepts rule signals ws e l =
+    first-join (listTests rule signals) _ e
+    ∙ ap (λ b. cond (not b) (Refused AreaLength) Fine) (eq-eqb (length ws) areaWords l)
+
 pub start-accepted : (rule signals ws : List ℕ) → startRefusal rule signals ws ≡ Fine
     → Accepted rule signals × (length ws ≡ areaWords)
 unfolding startRefusal firstRefusal wrongArea listsRefusal

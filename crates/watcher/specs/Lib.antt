@@ -8,4 +8,5 @@ pub mod Numbers
 pub mod State
 pub mod Calls
 pub mod Runs
+pub mod BadWatchers
 pub mod Examples
