@@ -18,3 +18,6 @@ pub mod Decided
 pub mod Demands
 pub mod ExampleRuns
 pub mod BadWatchers
+pub mod Scratch
+pub mod Leaving
+pub mod OnlyOne
