@@ -37,7 +37,7 @@ use Rattle.watcher.specs.Records.{entryOf}
 use Rattle.watcher.specs.Numbers.{saying, verdictFor}
 use Rattle.watcher.specs.Calls.{startRefusal, runningState}
 use Rattle.watcher.specs.Runs.{Held, started, fedOne, fedAll, answersTo, answerTo, ran, closedOne, endOf}
-use Rattle.watcher.specs.Runs.{accepts, acceptedAfter, acceptedLog, ruleFor, parametersFor}
+use Rattle.watcher.specs.Runs.{accepts, acceptedAfter, acceptedLog, readRule, parametersIn}
 use Rattle.watcher.specs.Runs.{heldKnown, heldAfter}
 use Rattle.watcher.specs.Examples.{ruleA, vents, at}
 use Rattle.watcher.specs.BadWatchers.{Three, Meets, RefusesStarts, RefusesRecords, RefusesClosing}
@@ -81,7 +81,7 @@ second-answer =
 
 -- the word of the remainder in an area
 abbrev tells : List ℕ → Word
-tells ws = saying (word (parametersFor (ruleA 2)) (formAt (parametersFor (ruleA 2)) ws mostParameters))
+tells ws = saying (word (parametersIn (ruleA 2)) (formAt (parametersIn (ruleA 2)) ws mostParameters))
 
 -- after accepted records it is the word of the last
 tells-told : (records : List (List ℕ)) (bytes : List ℕ) (w : Word)
@@ -118,7 +118,7 @@ one-after : afterOne ≡ heldAfter (ruleA 2) vents oneLog
 one-after =
     run-state (ruleA 2) vents (area 0) (begun 0) (at 0 1 0 ∷ []) ∙ ap (heldAfter (ruleA 2) vents) first-entry
 
-tells-closed : tells (closedOne afterOne .area) ≡ saying (wordOf (valueOf oneLog (ruleFor (ruleA 2))))
+tells-closed : tells (closedOne afterOne .area) ≡ saying (wordOf (valueOf oneLog (readRule (ruleA 2))))
 unfolding acceptedLog
 tells-closed =
     ap (λ (h : Held). tells (closedOne h .area)) one-after
@@ -230,7 +230,7 @@ module _ (f : Three) (right : Meets f) where
   pub touches-close : ClosesUntouched f → ⊥
   unfolding closedOne
   touches-close never =
-      decided-not (valueOf oneLog (ruleFor (ruleA 2))) (sym tells-closed ∙ ap tells same ∙ tells-one)
+      decided-not (valueOf oneLog (readRule (ruleA 2))) (sym tells-closed ∙ ap tells same ∙ tells-one)
     where
       same : closedOne afterOne .area ≡ afterOne .area
       same =

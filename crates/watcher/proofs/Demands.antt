@@ -6,6 +6,7 @@ use mathlib.Core.List.{List, [], _∷_, _++_, append-assoc}
 use Prim.Native.Nat.{ℕ, _+_, _<_}
 use native.Mathlib.Omega.{arith}
 use lib.ListN.{length, length-append}
+use Rattle.forms.specs.Area.{rowAt}
 use Rattle.meaning.specs.Rule.{Entry, timeAt, Rising}
 use Rattle.meaning.specs.Meaning.{valueOf}
 use Rattle.meaning.specs.Horizon.{within, horizon}
@@ -20,19 +21,21 @@ use Rattle.watcher.specs.declared.state.End.the-variants as end
 use Rattle.watcher.specs.declared.state.Refusal.{Refusal}
 use Rattle.watcher.specs.declared.state.Refusal.the-variants.{LogRecord, LogTime, NothingFed}
 use Rattle.watcher.specs.declared.state.Found.the-variants.{Fine}
+use Rattle.watcher.specs.Limits.{mostParameters}
 use Rattle.watcher.specs.Rules.{recordsOf}
 use Rattle.watcher.specs.Records.{wrongRecord, timeOf, entryOf}
 use Rattle.watcher.specs.Numbers.{saying, verdictFor}
 use Rattle.watcher.specs.Numbers as numbers
 use Rattle.watcher.specs.Calls.{startRefusal, waitOf}
-use Rattle.watcher.specs.Runs.{Held, fedOne, answerTo, ran, endOf, accepts, acceptedAfter, acceptedLog}
-use Rattle.watcher.specs.Runs.{lastTime, ruleFor, heldAfter, wordAfter, decided}
+use Rattle.watcher.specs.Runs.{Held, fedOne, answerTo, ran, closedOne, endOf, accepts, acceptedAfter}
+use Rattle.watcher.specs.Runs.{acceptedLog}
+use Rattle.watcher.specs.Runs.{lastTime, readRule, heldAfter, wordAfter, decided}
 use Rattle.watcher.proofs.Decoded.{Accepted}
 use Rattle.watcher.proofs.OwnStates.{start-accepted}
 use Rattle.watcher.proofs.Feeding.{Judged, taken, wrong, early, judge}
 use Rattle.watcher.proofs.Logs.{Below, accepted-below, accepted-more, last-more}
 use Rattle.watcher.proofs.Runs.{wrong-stays, early-stays, ready-after, fed-turn, run-state}
-use Rattle.watcher.proofs.OwnWork.{close-none}
+use Rattle.watcher.proofs.OwnWork.{close-none, close-keeps}
 use Rattle.watcher.proofs.Decided.{log-decided, log-settled, log-closes, wait-after, finite-rule}
 use Rattle.watcher.proofs.Decided.{accepted-rising}
 
@@ -74,7 +77,7 @@ module _ (rule signals ws : List ℕ) (start : startRefusal rule signals ws ≡ 
   -- demand 2: closing reports the value of the accepted records; without any it is refused with 11
   pub close-says : (records : List (List ℕ)) → 0 < length (acceptedLog signals records)
       → endOf (ran rule signals ws records)
-      ≡ end.Closed (verdictFor (valueOf (acceptedLog signals records) (ruleFor rule)))
+      ≡ end.Closed (verdictFor (valueOf (acceptedLog signals records) (readRule rule)))
   close-says records long =
       ap endOf (run-state rule signals ws start records)
       ∙ log-closes rule signals fine (acceptedLog signals records) long (accepted-rising signals records)
@@ -86,15 +89,23 @@ module _ (rule signals ws : List ℕ) (start : startRefusal rule signals ws ≡ 
       ap endOf (run-state rule signals ws start records ∙ ap (heldAfter rule signals) e)
       ∙ close-none rule signals fine .0
 
+  -- closing leaves the past rows as they were
+  pub close-keeps-past : (records : List (List ℕ)) (j : ℕ) → j < mostParameters
+      → rowAt (closedOne (ran rule signals ws records) .area) j ≡ rowAt (ran rule signals ws records .area) j
+  close-keeps-past records j h =
+      subst (λ (x : Held). rowAt (closedOne x .area) j ≡ rowAt (x .area) j)
+      (sym (run-state rule signals ws start records))
+      (close-keeps rule signals fine (acceptedLog signals records) (log-below records) j h)
+
   -- the wait that every state of a run tells is the rule's horizon
   pub wait-run : (records : List (List ℕ))
-      → waitOf (ran rule signals ws records .state) ≡ horizon (ruleFor rule)
+      → waitOf (ran rule signals ws records .state) ≡ horizon (readRule rule)
   wait-run records =
       ap (λ (h : Held). waitOf (h .state)) (run-state rule signals ws start records)
       ∙ wait-after rule signals fine (acceptedLog signals records)
 
   -- a rule whose forward limits are all finite has one
-  pub finite-wait : AllFinite (ruleFor rule) → (records : List (List ℕ))
+  pub finite-wait : AllFinite (readRule rule) → (records : List (List ℕ))
       → (h : ℕ) × (waitOf (ran rule signals ws records .state) ≡ within h)
   finite-wait finite records =
       let s = finite-rule rule signals fine finite in (s .0, wait-run records ∙ s .1)
@@ -193,13 +204,13 @@ module _ (rule signals ws : List ℕ) (start : startRefusal rule signals ws ≡ 
     decides : (b : Bool)
         → answerTo (ran rule signals ws records) bytes ≡ answer.Accepted (record { word = decided b })
         → (more : List (List ℕ))
-        → (valueOf (acceptedLog signals (records ++ (bytes ∷ more))) (ruleFor rule) ≡ b)
+        → (valueOf (acceptedLog signals (records ++ (bytes ∷ more))) (readRule rule) ≡ b)
         × (wordAfter rule (acceptedLog signals (records ++ (bytes ∷ more))) ≡ wordOf b)
     unfolding acceptedAfter
     decides b e more =
         let t = word-told (decided b) e in
         let parts = log-parts (t .0) more in
-        subst (λ log. (valueOf log (ruleFor rule) ≡ b) × (wordAfter rule log ≡ wordOf b)) (sym parts)
+        subst (λ log. (valueOf log (readRule rule) ≡ b) × (wordAfter rule log ≡ wordOf b)) (sym parts)
         (log-decided rule signals fine (acceptedLog signals (records ++ (bytes ∷ []))) (log-long (t .0) []) b
         (sym (unsaid _) ∙ ap numbers.wordOf (t .1 ∙ sym (said b)) ∙ unsaid (wordOf b))
         (acceptedAfter signals (timeOf bytes) more)
@@ -210,7 +221,7 @@ module _ (rule signals ws : List ℕ) (start : startRefusal rule signals ws ≡ 
     pub word-holds : (b : Bool)
         → answerTo (ran rule signals ws records) bytes ≡ answer.Accepted (record { word = decided b })
         → (more : List (List ℕ))
-        → (valueOf (acceptedLog signals (records ++ (bytes ∷ more))) (ruleFor rule) ≡ b)
+        → (valueOf (acceptedLog signals (records ++ (bytes ∷ more))) (readRule rule) ≡ b)
         × (endOf (ran rule signals ws (records ++ (bytes ∷ more))) ≡ end.Closed (verdictFor b))
     word-holds b e more =
         let v = decides b e more .0 in (

@@ -32,7 +32,7 @@ use Rattle.watcher.specs.Calls.{wrongArea, isClosed, isFresh, tooEarly, 
 use Rattle.watcher.specs.Calls.{knownNext, runningState, feedWith, feedOf, knownNow, closedState}
 use Rattle.watcher.specs.Calls.{closeWith, closeOf}
 use Rattle.watcher.specs.Calls.{freshState}
-use Rattle.watcher.specs.Runs.{accepts, ruleFor, parametersFor, heldKnown, heldAfter}
+use Rattle.watcher.specs.Runs.{accepts, readRule, parametersIn, heldKnown, heldAfter}
 use Rattle.watcher.proofs.Decoded.{Accepted}
 use Rattle.rewriting.proofs.Placed.{length-areaOf, read-past, read-remainder}
 use Rattle.watcher.proofs.Padding.{entry-padded}
@@ -124,27 +124,27 @@ closedBy rule w ws stage =
     (record { answer = end.Closed (verdictFor b); next = closedState w b }, areaOf mostParameters m (s .past) f)
 
 -- the outcome of a record after which so much is known
-unfoldable pub fedInto : (rule signals : List ℕ) → Known (parametersFor rule) → Fed × List ℕ
+unfoldable pub fedInto : (rule signals : List ℕ) → Known (parametersIn rule) → Fed × List ℕ
 fedInto rule signals s = (
   record {
-    answer = answer.Accepted (record { word = saying (word (parametersFor rule) (s .remainder)) });
+    answer = answer.Accepted (record { word = saying (word (parametersIn rule) (s .remainder)) });
     next = heldKnown rule signals s .state;
   },
   heldKnown rule signals s .area,
 )
 
 -- the outcome of closing where so much is known
-unfoldable pub closedInto : (rule signals : List ℕ) → Known (parametersFor rule) → Ended × List ℕ
+unfoldable pub closedInto : (rule signals : List ℕ) → Known (parametersIn rule) → Ended × List ℕ
 closedInto rule signals s =
-    let b : Bool = valueIfLast (parametersFor rule) (ruleFor rule) s in (
+    let b : Bool = valueIfLast (parametersIn rule) (readRule rule) s in (
       record { answer = end.Closed (verdictFor b); next = stateIn rule signals (phase.Closed (verdictFor b)) },
-      areaOf mostParameters (parametersFor rule) (s .past) (close (parametersFor rule) (ruleFor rule) s),
+      areaOf mostParameters (parametersIn rule) (s .past) (close (parametersIn rule) (readRule rule) s),
     )
 
 module _ (rule signals : List ℕ) (fine : Accepted rule signals) where
   fed-by : (p : Phase) (bytes ws : List ℕ) → feedRefusal (stateIn rule signals p) bytes ws ≡ Fine
       → feedOf (stateIn rule signals p) bytes ws
-      ≡ fedBy (ruleFor rule) (stateIn rule signals p) (entryOf signals (recordsOf signals) bytes) ws (stageOf p)
+      ≡ fedBy (readRule rule) (stateIn rule signals p) (entryOf signals (recordsOf signals) bytes) ws (stageOf p)
   unfolding feedOf feedWith fedBy parametersOf stateIn
   fed-by p bytes ws e =
       ap (λ f. feedWith f (stateIn rule signals p) bytes ws) e
@@ -153,15 +153,15 @@ module _ (rule signals : List ℕ) (fine : Accepted rule signals) where
       (entry-padded signals (list-short rule signals fine) (recordsOf signals) bytes i) ws (stageOf p))
 
   closed-by : (p : Phase) (ws : List ℕ) → closeRefusal (stateIn rule signals p) ws ≡ Fine
-      → closeOf (stateIn rule signals p) ws ≡ closedBy (ruleFor rule) (stateIn rule signals p) ws (stageOf p)
+      → closeOf (stateIn rule signals p) ws ≡ closedBy (readRule rule) (stateIn rule signals p) ws (stageOf p)
   unfolding closeOf closeWith closedBy parametersOf stateIn
   closed-by p ws e =
       ap (λ f. closeWith f (stateIn rule signals p) ws) e
       ∙ (λ i. closedBy (rule-in rule signals fine p i) (stateIn rule signals p) ws (stageOf p))
 
   -- what was laid out is read back
-  pub known-read : (s : Known (parametersFor rule)) → Lawful rule signals s
-      → knownIn mostParameters (parametersFor rule) (heldKnown rule signals s .area) (s .last) ≡ s
+  pub known-read : (s : Known (parametersIn rule)) → Lawful rule signals s
+      → knownIn mostParameters (parametersIn rule) (heldKnown rule signals s .area) (s .last) ≡ s
   unfolding heldKnown knownIn
   known-read s ok =
       λ i.
@@ -172,7 +172,7 @@ module _ (rule signals : List ℕ) (fine : Accepted rule signals) where
       }
     where
       m : ℕ
-      m = parametersFor rule
+      m = parametersIn rule
 
       few : m ≤ 12
       few = few-parameters rule signals fine
@@ -180,41 +180,41 @@ module _ (rule signals : List ℕ) (fine : Accepted rule signals) where
   -- the first record
   pub feed-first : (bytes : List ℕ) → wrongRecord bytes ≡ false
       → feedOf (heldAfter rule signals [] .state) bytes (heldAfter rule signals [] .area)
-      ≡ fedInto rule signals (first (parametersFor rule) (ruleFor rule) (entryOf signals (recordsOf signals) bytes))
+      ≡ fedInto rule signals (first (parametersIn rule) (readRule rule) (entryOf signals (recordsOf signals) bytes))
   unfolding heldAfter heldKnown freshState stateIn stageOf isClosed tooEarly fedBy fedInto knownNext runningState
-      first parametersFor
+      first parametersIn
   feed-first bytes right =
       fed-by phase.Fresh bytes ws
       (feed-accepts (stateIn rule signals phase.Fresh) ws (area-right m [] f) (fresh-fine rule signals fine f) refl
       bytes right refl)
-      ∙ ap (λ g. fedInto rule signals (words.leave m (ruleFor rule) g (entryOf signals (recordsOf signals) bytes)))
+      ∙ ap (λ g. fedInto rule signals (words.leave m (readRule rule) g (entryOf signals (recordsOf signals) bytes)))
       (read-remainder mostParameters m [] f (few-parameters rule signals fine))
     where
       m : ℕ
-      m = parameters (ruleFor rule)
+      m = parameters (readRule rule)
 
       f : Form m
-      f = words.start m (ruleFor rule)
+      f = words.start m (readRule rule)
 
       ws : List ℕ
       ws = areaOf mostParameters m [] f
 
   -- a later record
-  pub feed-later : (s : Known (parametersFor rule)) → Lawful rule signals s → (bytes : List ℕ)
+  pub feed-later : (s : Known (parametersIn rule)) → Lawful rule signals s → (bytes : List ℕ)
       → wrongRecord bytes ≡ false → s .last .time ≤ timeOf bytes
       → feedOf (heldKnown rule signals s .state) bytes (heldKnown rule signals s .area)
-      ≡ fedInto rule signals (feed (parametersFor rule) (ruleFor rule) s (entryOf signals (recordsOf signals) bytes))
+      ≡ fedInto rule signals (feed (parametersIn rule) (readRule rule) s (entryOf signals (recordsOf signals) bytes))
   unfolding heldKnown freshState stateIn stageOf isClosed tooEarly fedBy fedInto knownNext runningState feed
-      parametersFor
+      parametersIn
   feed-later s ok bytes right time =
       fed-by p bytes ws
       (feed-accepts (stateIn rule signals p) ws (area-right m (s .past) (s .remainder))
       (running-fine rule signals fine s ok) refl bytes right (le-ltb (timeOf bytes) (s .last .time) time))
-      ∙ ap (λ k. fedInto rule signals (feed m (ruleFor rule) k (entryOf signals (recordsOf signals) bytes)))
+      ∙ ap (λ k. fedInto rule signals (feed m (readRule rule) k (entryOf signals (recordsOf signals) bytes)))
       (known-read s ok)
     where
       m : ℕ
-      m = parameters (ruleFor rule)
+      m = parameters (readRule rule)
 
       p : Phase
       p = phase.Running (s .last .time) (s .last .signals)
@@ -223,10 +223,10 @@ module _ (rule signals : List ℕ) (fine : Accepted rule signals) where
       ws = areaOf mostParameters m (s .past) (s .remainder)
 
   -- closing
-  pub close-known : (s : Known (parametersFor rule)) → Lawful rule signals s
+  pub close-known : (s : Known (parametersIn rule)) → Lawful rule signals s
       → closeOf (heldKnown rule signals s .state) (heldKnown rule signals s .area) ≡ closedInto rule signals s
   unfolding heldKnown freshState stateIn stageOf isClosed isFresh closedBy closedInto knownNow runningState
-      closedState parametersFor
+      closedState parametersIn
   close-known s ok =
       closed-by p ws
       (close-accepts (stateIn rule signals p) ws (area-right m (s .past) (s .remainder))
@@ -234,7 +234,7 @@ module _ (rule signals : List ℕ) (fine : Accepted rule signals) where
       ∙ ap (closedInto rule signals) (known-read s ok)
     where
       m : ℕ
-      m = parameters (ruleFor rule)
+      m = parameters (readRule rule)
 
       p : Phase
       p = phase.Running (s .last .time) (s .last .signals)

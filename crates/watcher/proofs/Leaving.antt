@@ -28,7 +28,7 @@ use Rattle.watcher.specs.Numbers.{Stage, fresh, running, closed, stageOf
 use Rattle.watcher.specs.State.{ruleOf, parametersOf}
 use Rattle.watcher.specs.Calls.{startRefusal, feedRefusal, closeRefusal, startWith, startOf, feedWith, feedOf}
 use Rattle.watcher.specs.Calls.{closeWith, closeOf, knownNext, knownNow}
-use Rattle.watcher.specs.Runs.{Clean, ruleFor, parametersFor}
+use Rattle.watcher.specs.Runs.{Clean, readRule, parametersIn}
 
 -- an area that is laid out with no more past rows than parameters
 clean-area : (m : ℕ) (past : List (Form m)) (remainder : Form m) → length past ≤ m
@@ -72,11 +72,11 @@ now-long m ws (closed v) = length-tab m (formAt m ws)
 
 -- after an accepted start, an accepted record, an accepted closing
 pub start-clean : (rule signals ws : List ℕ) → startRefusal rule signals ws ≡ Fine
-    → Clean (parametersFor rule) (startOf rule signals ws .1)
-unfolding startOf startWith parametersFor ruleFor
+    → Clean (parametersIn rule) (startOf rule signals ws .1)
+unfolding startOf startWith parametersIn readRule
 start-clean rule signals ws e =
-    subst (λ f. Clean (parametersFor rule) (startWith f rule signals ws .1)) (sym e)
-    (clean-area (parametersFor rule) [] (words.start (parametersFor rule) (ruleFor rule)) (omega arith))
+    subst (λ f. Clean (parametersIn rule) (startWith f rule signals ws .1)) (sym e)
+    (clean-area (parametersIn rule) [] (words.start (parametersIn rule) (readRule rule)) (omega arith))
 
 module _ (w : Watcher) where
   pub feed-clean : (bytes ws : List ℕ) → feedRefusal w bytes ws ≡ Fine → Clean (parametersOf w) (feedOf w bytes ws .1)

@@ -16,7 +16,7 @@ use Rattle.meaning.proofs.Settling.{Climbs, last-after}
 use Rattle.watcher.specs.Rules.{recordsOf}
 use Rattle.watcher.specs.Records.{timeOf, entryOf}
 use Rattle.watcher.specs.Runs.{accepts, acceptedAfter, acceptedLog}
-use Rattle.watcher.specs.Runs.{lastTime, ruleFor, parametersFor}
+use Rattle.watcher.specs.Runs.{lastTime, readRule, parametersIn}
 use Rattle.watcher.proofs.Padding.{entry-below}
 use Rattle.watcher.proofs.OwnStates.{Lawful}
 use Rattle.watcher.proofs.Feeding.{Judged, taken, wrong, early, judge}
@@ -53,39 +53,39 @@ last-known m rule e es =
 
 module _ (rule signals : List ℕ) where
   first-lawful : (e : Entry) → e .signals < 2 ^ recordsOf signals
-      → Lawful rule signals (first (parametersFor rule) (ruleFor rule) e)
-  unfolding first parametersFor parameters
+      → Lawful rule signals (first (parametersIn rule) (readRule rule) e)
+  unfolding first parametersIn parameters
   first-lawful e h =
       record {
-        long = length-pastRows (parametersFor rule) (ruleFor rule) [] e none (length (ruleFor rule));
-        shape = first-shape (ruleFor rule) (parametersFor rule) (firstOf-fits (ruleFor rule)) e;
+        long = length-pastRows (parametersIn rule) (readRule rule) [] e none (length (readRule rule));
+        shape = first-shape (readRule rule) (parametersIn rule) (firstOf-fits (readRule rule)) e;
         below = h;
       }
 
-  feed-lawful : (s : Known (parametersFor rule)) (e : Entry) → e .signals < 2 ^ recordsOf signals
-      → Lawful rule signals (feed (parametersFor rule) (ruleFor rule) s e)
-  unfolding feed parametersFor parameters
+  feed-lawful : (s : Known (parametersIn rule)) (e : Entry) → e .signals < 2 ^ recordsOf signals
+      → Lawful rule signals (feed (parametersIn rule) (readRule rule) s e)
+  unfolding feed parametersIn parameters
   feed-lawful s e h =
       record {
         long =
-            length-pastRows (parametersFor rule) (ruleFor rule)
-            (derivedRows (parametersFor rule) (ruleFor rule) (s .past) (s .last) (at (e .time))
-            (length (ruleFor rule)))
-            e (at (s .last .time)) (length (ruleFor rule));
-        shape = feed-shape (ruleFor rule) (parametersFor rule) (firstOf-fits (ruleFor rule)) s e;
+            length-pastRows (parametersIn rule) (readRule rule)
+            (derivedRows (parametersIn rule) (readRule rule) (s .past) (s .last) (at (e .time))
+            (length (readRule rule)))
+            e (at (s .last .time)) (length (readRule rule));
+        shape = feed-shape (readRule rule) (parametersIn rule) (firstOf-fits (readRule rule)) s e;
         below = h;
       }
 
   -- what is known after a log is lawful
   pub after-lawful : (e : Entry) (es : List Entry) → Below (recordsOf signals) (e ∷ es)
-      → Lawful rule signals (after (parametersFor rule) (ruleFor rule) e es)
+      → Lawful rule signals (after (parametersIn rule) (readRule rule) e es)
   unfolding after fed
-  after-lawful e es b = go es (first (parametersFor rule) (ruleFor rule) e) (first-lawful e (b .0)) (b .1)
+  after-lawful e es b = go es (first (parametersIn rule) (readRule rule) e) (first-lawful e (b .0)) (b .1)
     where
-      go : (es : List Entry) (s : Known (parametersFor rule)) → Lawful rule signals s → Below (recordsOf signals) es
-          → Lawful rule signals (fed (parametersFor rule) (ruleFor rule) s es)
+      go : (es : List Entry) (s : Known (parametersIn rule)) → Lawful rule signals s → Below (recordsOf signals) es
+          → Lawful rule signals (fed (parametersIn rule) (readRule rule) s es)
       go [] s ok b = ok
-      go (e ∷ es) s ok b = go es (feed (parametersFor rule) (ruleFor rule) s e) (feed-lawful s e (b .0)) (b .1)
+      go (e ∷ es) s ok b = go es (feed (parametersIn rule) (readRule rule) s e) (feed-lawful s e (b .0)) (b .1)
 
 -- the accepted records: times never fall, and signals stay within the list
 pub accepted-climbs : (signals : List ℕ) (last : ℕ) (records : List (List ℕ))

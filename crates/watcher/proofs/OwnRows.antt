@@ -34,7 +34,7 @@ zero-row = every-all 64 _ (λ i h. eq-eqb (getD (replicate 64 0) i 0) 0 (zero-at
 
 module _ (m : ℕ) (past : List (Form m)) (remainder : Form m) where
   -- the row at a past place
-  past-laid : (j : ℕ) → j < mostParameters
+  pub past-laid : (j : ℕ) → j < mostParameters
       → rowAt (areaOf mostParameters m past remainder) j ≡ pack m (formIn m past j)
   past-laid j h =
       row-areaOf mostParameters m past remainder j (omega arith) ∙ row-past mostParameters m past remainder j h

@@ -26,7 +26,7 @@ use Rattle.watcher.specs.State.{ruleOf, parametersOf, ruleBytes, listByt
 use Rattle.watcher.specs.State.{notZerosBehind, signalsAbove, bitsAbove, notZeroFrom, wrongRows, wrongInPhase}
 use Rattle.watcher.specs.State.{brokenState}
 use Rattle.watcher.specs.Calls.{wrongArea, startRefusal, padded}
-use Rattle.watcher.specs.Runs.{ruleFor, parametersFor}
+use Rattle.watcher.specs.Runs.{readRule, parametersIn}
 use Rattle.watcher.proofs.Decoded.{Accepted, fine-tests, tests-fine, first-fine, length-fine, Whole}
 use Rattle.watcher.proofs.Decoded.{accepted-list, accepted-few}
 use Rattle.watcher.proofs.Refusing.{length-most}
@@ -86,16 +86,16 @@ module _ (rule signals : List ℕ) (fine : Accepted rule signals) where
   list-short = let w = accepted-list rule signals fine in omega (arith, w .whole, w .most)
 
   -- it holds the rule
-  pub rule-in : (p : Phase) → ruleOf (stateIn rule signals p) ≡ ruleFor rule
-  unfolding ruleOf stateIn ruleFor
+  pub rule-in : (p : Phase) → ruleOf (stateIn rule signals p) ≡ readRule rule
+  unfolding ruleOf stateIn readRule
   rule-in p = rule-padded rule rule-short (recordsOf rule)
 
-  pub parameters-in : (p : Phase) → parametersOf (stateIn rule signals p) ≡ parametersFor rule
-  unfolding parametersOf parametersFor
+  pub parameters-in : (p : Phase) → parametersOf (stateIn rule signals p) ≡ parametersIn rule
+  unfolding parametersOf parametersIn
   parameters-in p = ap parameters (rule-in p)
 
-  pub few-parameters : parametersFor rule ≤ 12
-  unfolding parametersFor ruleFor
+  pub few-parameters : parametersIn rule ≤ 12
+  unfolding parametersIn readRule
   few-parameters = accepted-few rule signals fine
 
   -- start would not refuse its lists
@@ -127,7 +127,7 @@ module _ (rule signals : List ℕ) (fine : Accepted rule signals) where
 
   -- so the state is broken only by its phase or its area
   pub broken-in : (p : Phase) (ws : List ℕ) → signalsAbove (recordsOf signals) (stageOf p) ≡ false
-      → bitsAbove (parametersFor rule) ws ≡ false → notZeroFrom (parametersFor rule) ws ≡ false
+      → bitsAbove (parametersIn rule) ws ≡ false → notZeroFrom (parametersIn rule) ws ≡ false
       → wrongInPhase (stateIn rule signals p) ws (stageOf p) ≡ false → brokenState (stateIn rule signals p) ws ≡ false
   unfolding brokenState stateIn
   broken-in p ws above bits unused rows =
@@ -138,15 +138,15 @@ module _ (rule signals : List ℕ) (fine : Accepted rule signals) where
       (ap₂ _||_ (ap (λ m. notZeroFrom m ws) (parameters-in p) ∙ unused) rows))))
 
 -- what is known is as the watcher makes it: a past row of the right shape for each parameter, no signal past the list
-pub record Lawful (rule signals : List ℕ) (s : Known (parametersFor rule)) : Type 0 where
-  pub long : length (s .past) ≡ parametersFor rule
-  pub shape : KnownShape (ruleFor rule) (parametersFor rule) s
+pub record Lawful (rule signals : List ℕ) (s : Known (parametersIn rule)) : Type 0 where
+  pub long : length (s .past) ≡ parametersIn rule
+  pub shape : KnownShape (readRule rule) (parametersIn rule) s
   pub below : s .last .signals < 2 ^ recordsOf signals
 
 -- the areas that belong to each phase
 module _ (rule signals : List ℕ) (fine : Accepted rule signals) where
-  pub fresh-fine : (remainder : Form (parametersFor rule))
-      → brokenState (stateIn rule signals phase.Fresh) (areaOf mostParameters (parametersFor rule) [] remainder)
+  pub fresh-fine : (remainder : Form (parametersIn rule))
+      → brokenState (stateIn rule signals phase.Fresh) (areaOf mostParameters (parametersIn rule) [] remainder)
       ≡ false
   unfolding stageOf signalsAbove wrongInPhase
   fresh-fine remainder =
@@ -155,25 +155,25 @@ module _ (rule signals : List ℕ) (fine : Accepted rule signals) where
       (unused-fine m [] remainder 0 (omega arith))
     where
       m : ℕ
-      m = parametersFor rule
+      m = parametersIn rule
 
-  pub running-fine : (s : Known (parametersFor rule)) → Lawful rule signals s
+  pub running-fine : (s : Known (parametersIn rule)) → Lawful rule signals s
       → brokenState (stateIn rule signals (phase.Running (s .last .time) (s .last .signals)))
-      (areaOf mostParameters (parametersFor rule) (s .past) (s .remainder))
+      (areaOf mostParameters (parametersIn rule) (s .past) (s .remainder))
       ≡ false
-  unfolding stageOf signalsAbove wrongInPhase parametersOf parametersFor
+  unfolding stageOf signalsAbove wrongInPhase parametersOf parametersIn
   running-fine s ok =
       broken-in rule signals fine p ws
       (lt-leb (2 ^ recordsOf signals) (s .last .signals) (ok .below))
       (bits-fine m (s .past) (s .remainder))
       (unused-fine m (s .past) (s .remainder) m (omega (arith, ok .long)))
       (ap (λ r. wrongRows r (parameters r) (s .last) (pastIn (parameters r) ws)) (rule-in rule signals fine p)
-      ∙ ap (wrongRows (ruleFor rule) m (s .last))
+      ∙ ap (wrongRows (readRule rule) m (s .last))
       (read-past mostParameters m (s .past) (s .remainder) few few (ok .long))
-      ∙ rows-fine (ruleFor rule) m (s .last) (s .past) (ok .shape))
+      ∙ rows-fine (readRule rule) m (s .last) (s .past) (ok .shape))
     where
       m : ℕ
-      m = parameters (ruleFor rule)
+      m = parameters (readRule rule)
 
       p : Phase
       p = phase.Running (s .last .time) (s .last .signals)
@@ -184,13 +184,13 @@ module _ (rule signals : List ℕ) (fine : Accepted rule signals) where
       few : m ≤ 12
       few = few-parameters rule signals fine
 
-  pub closed-fine : (v : Verdict) (past : List (Form (parametersFor rule))) (remainder : Form (parametersFor rule))
-      → length past ≡ parametersFor rule
+  pub closed-fine : (v : Verdict) (past : List (Form (parametersIn rule))) (remainder : Form (parametersIn rule))
+      → length past ≡ parametersIn rule
       → brokenState (stateIn rule signals (phase.Closed v))
-      (areaOf mostParameters (parametersFor rule) past remainder)
+      (areaOf mostParameters (parametersIn rule) past remainder)
       ≡ false
   unfolding stageOf signalsAbove wrongInPhase
   closed-fine v past remainder long =
-      broken-in rule signals fine (phase.Closed v) (areaOf mostParameters (parametersFor rule) past remainder) refl
-      (bits-fine (parametersFor rule) past remainder)
-      (unused-fine (parametersFor rule) past remainder (parametersFor rule) (omega (arith, long))) refl
+      broken-in rule signals fine (phase.Closed v) (areaOf mostParameters (parametersIn rule) past remainder) refl
+      (bits-fine (parametersIn rule) past remainder)
+      (unused-fine (parametersIn rule) past remainder (parametersIn rule) (omega (arith, long))) refl

@@ -3,9 +3,10 @@
 use mathlib.Core.Path.{_≡_, refl, sym, ap, _∙_, subst}
 use mathlib.Core.Bool.{false}
 use mathlib.Core.List.{List, [], _∷_, _++_}
-use Prim.Native.Nat.{ℕ}
+use Prim.Native.Nat.{ℕ, _<_}
 use lib.ListN.{length}
 use Rattle.forms.specs.Form.{Form}
+use Rattle.forms.specs.Area.{rowAt}
 use Rattle.meaning.specs.Rule.{Entry}
 use Rattle.meaning.specs.Words.{Known, after, close, valueIfLast}
 use Rattle.rewriting.specs.Known.{areaOf}
@@ -24,9 +25,10 @@ use Rattle.watcher.specs.State.{brokenState}
 use Rattle.watcher.specs.Calls.{wrongArea, isClosed, isFresh, startRefusal, closeRefusal, closeOf, freshState}
 use Rattle.watcher.specs.Runs.{Held, started, fedOne, closedOne, endOf}
 use Rattle.watcher.specs.Runs.{Call, feeding, closing, called, calledAll}
-use Rattle.watcher.specs.Runs.{lastTime, ruleFor, parametersFor, heldAfter, heldKnown}
+use Rattle.watcher.specs.Runs.{lastTime, readRule, parametersIn, heldAfter, heldKnown}
 use Rattle.watcher.proofs.Decoded.{Accepted}
 use Rattle.watcher.proofs.Padding.{entry-below}
+use Rattle.watcher.proofs.OwnRows.{past-laid}
 use Rattle.watcher.proofs.OwnStates.{start-accepted, stateIn, closed-fine}
 use Rattle.watcher.proofs.Feeding.{Judged, taken, wrong, early, judge, closed-refuses, close-nothing}
 use Rattle.watcher.proofs.Feeding.{refused-close, area-right, closedInto, close-known}
@@ -53,27 +55,27 @@ Sound h = (wrongArea (h .area) ≡ false) × (brokenState (h .state) (h .area) �
 
 module _ (rule signals : List ℕ) where
   -- a closed state, with its area
-  unfoldable pub shutAt : Verdict → (past : List (Form (parametersFor rule))) → Form (parametersFor rule) → Held
+  unfoldable pub shutAt : Verdict → (past : List (Form (parametersIn rule))) → Form (parametersIn rule) → Held
   shutAt v past f =
       record {
         state = stateIn rule signals (phase.Closed v);
-        area = areaOf mostParameters (parametersFor rule) past f;
+        area = areaOf mostParameters (parametersIn rule) past f;
       }
 
   -- where calls lead: to what the rewriting gives after a log, or to a closed state
   data Stand (h : Held) : Type 0 where
     going : (log : List Entry) → Below (recordsOf signals) log → h ≡ heldAfter rule signals log → Stand h
-    shut : (v : Verdict) (past : List (Form (parametersFor rule))) (f : Form (parametersFor rule))
-        → length past ≡ parametersFor rule → h ≡ shutAt v past f → Stand h
+    shut : (v : Verdict) (past : List (Form (parametersIn rule))) (f : Form (parametersIn rule))
+        → length past ≡ parametersIn rule → h ≡ shutAt v past f → Stand h
 
   module _ (fine : Accepted rule signals) where
-    shut-sound : (v : Verdict) (past : List (Form (parametersFor rule))) (f : Form (parametersFor rule))
-        → length past ≡ parametersFor rule → Sound (shutAt v past f)
+    shut-sound : (v : Verdict) (past : List (Form (parametersIn rule))) (f : Form (parametersIn rule))
+        → length past ≡ parametersIn rule → Sound (shutAt v past f)
     unfolding shutAt
-    shut-sound v past f long = (area-right (parametersFor rule) past f, closed-fine rule signals fine v past f long)
+    shut-sound v past f long = (area-right (parametersIn rule) past f, closed-fine rule signals fine v past f long)
 
-    shut-stays : (v : Verdict) (past : List (Form (parametersFor rule))) (f : Form (parametersFor rule))
-        → length past ≡ parametersFor rule → (c : Call) → called (shutAt v past f) c ≡ shutAt v past f
+    shut-stays : (v : Verdict) (past : List (Form (parametersIn rule))) (f : Form (parametersIn rule))
+        → length past ≡ parametersIn rule → (c : Call) → called (shutAt v past f) c ≡ shutAt v past f
     unfolding called shutAt stateIn stageOf isClosed
     shut-stays v past f long (feeding bytes) =
         stays (shutAt v past f) bytes AlreadyClosed
@@ -110,15 +112,26 @@ module _ (rule signals : List ℕ) where
 
     -- closing after accepted records
     pub close-some : (e : Entry) (es : List Entry) → Below (recordsOf signals) (e ∷ es)
-        → let s : Known (parametersFor rule) = after (parametersFor rule) (ruleFor rule) e es in
-        let v : Verdict = verdictFor (valueIfLast (parametersFor rule) (ruleFor rule) s) in
+        → let s : Known (parametersIn rule) = after (parametersIn rule) (readRule rule) e es in
+        let v : Verdict = verdictFor (valueIfLast (parametersIn rule) (readRule rule) s) in
         (endOf (heldAfter rule signals (e ∷ es)) ≡ end.Closed v)
         × (closedOne (heldAfter rule signals (e ∷ es))
-        ≡ shutAt v (s .past) (close (parametersFor rule) (ruleFor rule) s))
+        ≡ shutAt v (s .past) (close (parametersIn rule) (readRule rule) s))
     unfolding heldAfter closedInto shutAt
     close-some e es b =
-        let s : Known (parametersFor rule) = after (parametersFor rule) (ruleFor rule) e es in
+        let s : Known (parametersIn rule) = after (parametersIn rule) (readRule rule) e es in
         ended (heldKnown rule signals s) _ (close-known rule signals fine s (after-lawful rule signals e es b))
+
+    -- closing leaves the past rows as they were
+    pub close-keeps : (log : List Entry) → Below (recordsOf signals) log → (j : ℕ) → j < mostParameters
+        → rowAt (closedOne (heldAfter rule signals log) .area) j ≡ rowAt (heldAfter rule signals log .area) j
+    unfolding heldAfter heldKnown shutAt
+    close-keeps [] b j h = ap (λ (x : Held). rowAt (x .area) j) (close-none .1)
+    close-keeps (e ∷ es) b j h =
+        let m : ℕ = parametersIn rule in
+        let s : Known m = after m (readRule rule) e es in
+        ap (λ (x : Held). rowAt (x .area) j) (close-some e es b .1)
+        ∙ past-laid m (s .past) (close m (readRule rule) s) j h ∙ sym (past-laid m (s .past) (s .remainder) j h)
 
     closed-stands : (h : Held) (log : List Entry) → Below (recordsOf signals) log → h ≡ heldAfter rule signals log
         → Stand (closedOne h)
