@@ -36,7 +36,7 @@ pub record Accepted (rule signals : List ℕ) : Type 0 where
   pub listed : wrongSignals signals ≡ false
   pub named : namesMissing rule (recordsOf signals) ≡ false
 
-first-fine : (b : Bool) (r : Refusal) (f : Found) → cond b (Refused r) f ≡ Fine → (b ≡ false) × (f ≡ Fine)
+pub first-fine : (b : Bool) (r : Refusal) (f : Found) → cond b (Refused r) f ≡ Fine → (b ≡ false) × (f ≡ Fine)
 first-fine true r f e = let z : _≡_ {A = ℕ} 0 1 = cc in let y : ⊥ = omega arith in absurd y
 first-fine false r f e = (refl, e)
 

@@ -12,3 +12,17 @@ pub mod ShapeLaws
 pub mod RecordRows
 pub mod Breaking
 pub mod Examples
+pub mod Padding
+pub mod OwnRows
+pub mod OwnStates
+pub mod Feeding
+pub mod Logs
+pub mod Runs
+pub mod OwnWork
+pub mod Decided
+pub mod Demands
+pub mod ExampleRuns
+pub mod BadWatchers
+pub mod Scratch
+pub mod Leaving
+pub mod OnlyOne

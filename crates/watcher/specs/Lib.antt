@@ -7,6 +7,8 @@ pub mod Lists
 pub mod Numbers
 pub mod State
 pub mod Calls
+pub mod Runs
+pub mod BadWatchers
 pub mod Examples
 pub mod Horizons
 pub mod Shapes

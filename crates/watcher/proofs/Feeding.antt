@@ -1,0 +1,243 @@
+-- What feeding and closing do to a state and an area that the watcher made.
+-- Assumes nothing.
+use mathlib.Core.Path.{_≡_, refl, ap, ap₂, _∙_}
+use mathlib.Core.Bool.{Bool, true, false, not, _&&_}
+use mathlib.Core.List.{List, []}
+use Prim.Native.Nat.{ℕ, _≤_, _<_}
+use lib.Dec.{leb}
+use lib.ListN.{length}
+use borrow.Author.Tests.{le-ltb, leb-true, leb-false, eq-eqb}
+use Rattle.forms.specs.Form.{Form}
+use Rattle.meaning.specs.Rule.{Node, Entry, parameters}
+use Rattle.meaning.specs.Words.{Known, first, feed, close, valueIfLast, word}
+use Rattle.meaning.specs.Words as words
+use Rattle.rewriting.specs.Known.{wordsFor, areaOf, knownIn}
+use Rattle.watcher.specs.declared.state.Watcher.{Watcher}
+use Rattle.watcher.specs.declared.state.Phase.{Phase}
+use Rattle.watcher.specs.declared.state.Phase.the-variants as phase
+use Rattle.watcher.specs.declared.state.Refusal.{Refusal}
+use Rattle.watcher.specs.declared.state.Refusal.the-variants.{LogRecord, LogTime, AlreadyClosed, NothingFed}
+use Rattle.watcher.specs.declared.state.Found.the-variants.{Fine, Refused}
+use Rattle.watcher.specs.declared.state.Answer.the-variants as answer
+use Rattle.watcher.specs.declared.state.End.the-variants as end
+use Rattle.watcher.specs.declared.state.Fed.{Fed}
+use Rattle.watcher.specs.declared.state.Ended.{Ended}
+use Rattle.watcher.specs.Limits.{mostParameters, areaWords}
+use Rattle.watcher.specs.Rules.{recordsOf}
+use Rattle.watcher.specs.Records.{wrongRecord, timeOf, entryOf}
+use Rattle.watcher.specs.Lists.{firstRefusal}
+use Rattle.watcher.specs.Numbers.{saying, verdictFor, Stage, stageOf}
+use Rattle.watcher.specs.State.{parametersOf, brokenState}
+use Rattle.watcher.specs.Calls.{wrongArea, isClosed, isFresh, tooEarly, stateTests, feedRefusal, closeRefusal}
+use Rattle.watcher.specs.Calls.{knownNext, runningState, feedWith, feedOf, knownNow, closedState}
+use Rattle.watcher.specs.Calls.{closeWith, closeOf}
+use Rattle.watcher.specs.Calls.{freshState}
+use Rattle.watcher.specs.Runs.{accepts, readRule, parametersIn, heldKnown, heldAfter}
+use Rattle.watcher.proofs.Decoded.{Accepted}
+use Rattle.rewriting.proofs.Placed.{length-areaOf, read-past, read-remainder}
+use Rattle.watcher.proofs.Padding.{entry-padded}
+use Rattle.watcher.proofs.OwnStates.{stateIn, list-short, rule-in, few-parameters, Lawful, fresh-fine}
+use Rattle.watcher.proofs.OwnStates.{running-fine}
+
+-- a record is accepted, wrong, or too early
+pub data Judged (last : ℕ) (bytes : List ℕ) : Type 0 where
+  taken : accepts last bytes ≡ true → wrongRecord bytes ≡ false → last ≤ timeOf bytes → Judged last bytes
+  wrong : accepts last bytes ≡ false → wrongRecord bytes ≡ true → Judged last bytes
+  early : accepts last bytes ≡ false → wrongRecord bytes ≡ false → timeOf bytes < last → Judged last bytes
+
+pub judge : (last : ℕ) (bytes : List ℕ) → Judged last bytes
+unfolding accepts
+judge last bytes = go (wrongRecord bytes) (leb last (timeOf bytes)) refl refl
+  where
+    go : (a b : Bool) → wrongRecord bytes ≡ a → leb last (timeOf bytes) ≡ b → Judged last bytes
+    go true b p q = wrong (ap (λ x. not x && leb last (timeOf bytes)) p) p
+    go false true p q = taken (ap₂ (λ x y. not x && y) p q) p (leb-true last (timeOf bytes) q)
+    go false false p q = early (ap₂ (λ x y. not x && y) p q) p (leb-false last (timeOf bytes) q)
+
+-- a state that is not broken, with an area of the right length
+module _ (w : Watcher) (ws : List ℕ) (area : wrongArea ws ≡ false) (sound : brokenState w ws ≡ false) where
+  pub closed-refuses : (bytes : List ℕ) → isClosed (stageOf (w .phase)) ≡ true
+      → (feedRefusal w bytes ws ≡ Refused AlreadyClosed) × (closeRefusal w ws ≡ Refused AlreadyClosed)
+  unfolding feedRefusal closeRefusal stateTests firstRefusal
+  closed-refuses bytes e = (rw (area, sound, e), rw (area, sound, e))
+
+  module _ (live : isClosed (stageOf (w .phase)) ≡ false) where
+    pub feed-wrong : (bytes : List ℕ) → wrongRecord bytes ≡ true → feedRefusal w bytes ws ≡ Refused LogRecord
+    unfolding feedRefusal stateTests firstRefusal
+    feed-wrong bytes e = rw (area, sound, live, e)
+
+    pub feed-early : (bytes : List ℕ) → wrongRecord bytes ≡ false
+        → tooEarly (stageOf (w .phase)) (timeOf bytes) ≡ true → feedRefusal w bytes ws ≡ Refused LogTime
+    unfolding feedRefusal stateTests firstRefusal
+    feed-early bytes e h = rw (area, sound, live, e, h)
+
+    pub feed-accepts : (bytes : List ℕ) → wrongRecord bytes ≡ false
+        → tooEarly (stageOf (w .phase)) (timeOf bytes) ≡ false → feedRefusal w bytes ws ≡ Fine
+    unfolding feedRefusal stateTests firstRefusal
+    feed-accepts bytes e h = rw (area, sound, live, e, h)
+
+    pub close-nothing : isFresh (stageOf (w .phase)) ≡ true → closeRefusal w ws ≡ Refused NothingFed
+    unfolding closeRefusal stateTests firstRefusal
+    close-nothing e = rw (area, sound, live, e)
+
+    pub close-accepts : isFresh (stageOf (w .phase)) ≡ false → closeRefusal w ws ≡ Fine
+    unfolding closeRefusal stateTests firstRefusal
+    close-accepts e = rw (area, sound, live, e)
+
+-- a refused record, a refused closing
+pub refused-feed : (w : Watcher) (bytes ws : List ℕ) (r : Refusal) → feedRefusal w bytes ws ≡ Refused r
+    → feedOf w bytes ws ≡ (record { answer = answer.Refused r; next = w }, ws)
+unfolding feedOf feedWith
+refused-feed w bytes ws r e = ap (λ f. feedWith f w bytes ws) e
+
+pub refused-close : (w : Watcher) (ws : List ℕ) (r : Refusal) → closeRefusal w ws ≡ Refused r
+    → closeOf w ws ≡ (record { answer = end.Refused r; next = w }, ws)
+unfolding closeOf closeWith
+refused-close w ws r e = ap (λ f. closeWith f w ws) e
+
+-- the area that is laid out has its words
+pub area-right : (m : ℕ) (past : List (Form m)) (remainder : Form m)
+    → wrongArea (areaOf mostParameters m past remainder) ≡ false
+unfolding wrongArea wordsFor
+area-right m past remainder =
+    ap not (eq-eqb (length (areaOf mostParameters m past remainder)) areaWords
+    (length-areaOf mostParameters m past remainder))
+
+-- what feeding and closing hand back, with the rule apart
+unfoldable fedBy : List Node → Watcher → Entry → List ℕ → Stage → Fed × List ℕ
+fedBy rule w e ws stage =
+    let m : ℕ = parameters rule in
+    let s : Known m = knownNext m rule ws e stage in (
+      record {
+        answer = answer.Accepted (record { word = saying (word m (s .remainder)) });
+        next = runningState w e;
+      },
+      areaOf mostParameters m (s .past) (s .remainder),
+    )
+
+unfoldable closedBy : List Node → Watcher → List ℕ → Stage → Ended × List ℕ
+closedBy rule w ws stage =
+    let m : ℕ = parameters rule in
+    let s : Known m = knownNow m ws stage in
+    let b : Bool = valueIfLast m rule s in
+    let f : Form m = close m rule s in
+    (record { answer = end.Closed (verdictFor b); next = closedState w b }, areaOf mostParameters m (s .past) f)
+
+-- the outcome of a record after which so much is known
+unfoldable pub fedInto : (rule signals : List ℕ) → Known (parametersIn rule) → Fed × List ℕ
+fedInto rule signals s = (
+  record {
+    answer = answer.Accepted (record { word = saying (word (parametersIn rule) (s .remainder)) });
+    next = heldKnown rule signals s .state;
+  },
+  heldKnown rule signals s .area,
+)
+
+-- the outcome of closing where so much is known
+unfoldable pub closedInto : (rule signals : List ℕ) → Known (parametersIn rule) → Ended × List ℕ
+closedInto rule signals s =
+    let b : Bool = valueIfLast (parametersIn rule) (readRule rule) s in (
+      record { answer = end.Closed (verdictFor b); next = stateIn rule signals (phase.Closed (verdictFor b)) },
+      areaOf mostParameters (parametersIn rule) (s .past) (close (parametersIn rule) (readRule rule) s),
+    )
+
+module _ (rule signals : List ℕ) (fine : Accepted rule signals) where
+  fed-by : (p : Phase) (bytes ws : List ℕ) → feedRefusal (stateIn rule signals p) bytes ws ≡ Fine
+      → feedOf (stateIn rule signals p) bytes ws
+      ≡ fedBy (readRule rule) (stateIn rule signals p) (entryOf signals (recordsOf signals) bytes) ws (stageOf p)
+  unfolding feedOf feedWith fedBy parametersOf stateIn
+  fed-by p bytes ws e =
+      ap (λ f. feedWith f (stateIn rule signals p) bytes ws) e
+      ∙ (λ i.
+      fedBy (rule-in rule signals fine p i) (stateIn rule signals p)
+      (entry-padded signals (list-short rule signals fine) (recordsOf signals) bytes i) ws (stageOf p))
+
+  closed-by : (p : Phase) (ws : List ℕ) → closeRefusal (stateIn rule signals p) ws ≡ Fine
+      → closeOf (stateIn rule signals p) ws ≡ closedBy (readRule rule) (stateIn rule signals p) ws (stageOf p)
+  unfolding closeOf closeWith closedBy parametersOf stateIn
+  closed-by p ws e =
+      ap (λ f. closeWith f (stateIn rule signals p) ws) e
+      ∙ (λ i. closedBy (rule-in rule signals fine p i) (stateIn rule signals p) ws (stageOf p))
+
+  -- what was laid out is read back
+  pub known-read : (s : Known (parametersIn rule)) → Lawful rule signals s
+      → knownIn mostParameters (parametersIn rule) (heldKnown rule signals s .area) (s .last) ≡ s
+  unfolding heldKnown knownIn
+  known-read s ok =
+      λ i.
+      record {
+        past = read-past mostParameters m (s .past) (s .remainder) few few (ok .long) i;
+        remainder = read-remainder mostParameters m (s .past) (s .remainder) few i;
+        last = s .last;
+      }
+    where
+      m : ℕ
+      m = parametersIn rule
+
+      few : m ≤ 12
+      few = few-parameters rule signals fine
+
+  -- the first record
+  pub feed-first : (bytes : List ℕ) → wrongRecord bytes ≡ false
+      → feedOf (heldAfter rule signals [] .state) bytes (heldAfter rule signals [] .area)
+      ≡ fedInto rule signals (first (parametersIn rule) (readRule rule) (entryOf signals (recordsOf signals) bytes))
+  unfolding heldAfter heldKnown freshState stateIn stageOf isClosed tooEarly fedBy fedInto knownNext runningState
+      first parametersIn
+  feed-first bytes right =
+      fed-by phase.Fresh bytes ws
+      (feed-accepts (stateIn rule signals phase.Fresh) ws (area-right m [] f) (fresh-fine rule signals fine f) refl
+      bytes right refl)
+      ∙ ap (λ g. fedInto rule signals (words.leave m (readRule rule) g (entryOf signals (recordsOf signals) bytes)))
+      (read-remainder mostParameters m [] f (few-parameters rule signals fine))
+    where
+      m : ℕ
+      m = parameters (readRule rule)
+
+      f : Form m
+      f = words.start m (readRule rule)
+
+      ws : List ℕ
+      ws = areaOf mostParameters m [] f
+
+  -- a later record
+  pub feed-later : (s : Known (parametersIn rule)) → Lawful rule signals s → (bytes : List ℕ)
+      → wrongRecord bytes ≡ false → s .last .time ≤ timeOf bytes
+      → feedOf (heldKnown rule signals s .state) bytes (heldKnown rule signals s .area)
+      ≡ fedInto rule signals (feed (parametersIn rule) (readRule rule) s (entryOf signals (recordsOf signals) bytes))
+  unfolding heldKnown freshState stateIn stageOf isClosed tooEarly fedBy fedInto knownNext runningState feed
+      parametersIn
+  feed-later s ok bytes right time =
+      fed-by p bytes ws
+      (feed-accepts (stateIn rule signals p) ws (area-right m (s .past) (s .remainder))
+      (running-fine rule signals fine s ok) refl bytes right (le-ltb (timeOf bytes) (s .last .time) time))
+      ∙ ap (λ k. fedInto rule signals (feed m (readRule rule) k (entryOf signals (recordsOf signals) bytes)))
+      (known-read s ok)
+    where
+      m : ℕ
+      m = parameters (readRule rule)
+
+      p : Phase
+      p = phase.Running (s .last .time) (s .last .signals)
+
+      ws : List ℕ
+      ws = areaOf mostParameters m (s .past) (s .remainder)
+
+  -- closing
+  pub close-known : (s : Known (parametersIn rule)) → Lawful rule signals s
+      → closeOf (heldKnown rule signals s .state) (heldKnown rule signals s .area) ≡ closedInto rule signals s
+  unfolding heldKnown freshState stateIn stageOf isClosed isFresh closedBy closedInto knownNow runningState
+      closedState parametersIn
+  close-known s ok =
+      closed-by p ws
+      (close-accepts (stateIn rule signals p) ws (area-right m (s .past) (s .remainder))
+      (running-fine rule signals fine s ok) refl refl)
+      ∙ ap (closedInto rule signals) (known-read s ok)
+    where
+      m : ℕ
+      m = parameters (readRule rule)
+
+      p : Phase
+      p = phase.Running (s .last .time) (s .last .signals)
+
+      ws : List ℕ
+      ws = areaOf mostParameters m (s .past) (s .remainder)

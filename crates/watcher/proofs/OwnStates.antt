@@ -1,0 +1,196 @@
+-- The states that the watcher makes of accepted lists, and that refusal 12 is not given for them.
+-- Assumes nothing.
+use mathlib.Core.Path.{_≡_, refl, sym, ap, ap₂, _∙_}
+use mathlib.Core.Bool.{false, not, _||_, cond}
+use mathlib.Core.List.{List, [], _∷_, _++_}
+use Prim.Native.Nat.{ℕ, _*_, _^_, _≤_, _<_}
+use native.Mathlib.Omega.{arith}
+use lib.ListN.{length, take}
+use borrow.Author.Tests.{le-ltb, lt-leb, eq-eqb, eqb-true, not-false}
+use Rattle.forms.specs.Form.{Form}
+use Rattle.meaning.specs.Rule.{parameters}
+use Rattle.meaning.specs.Words.{Known}
+use Rattle.meaning.proofs.Shapes.{KnownShape}
+use Rattle.rewriting.specs.Known.{areaOf, pastIn}
+use Rattle.watcher.specs.declared.state.Watcher.{Watcher}
+use Rattle.watcher.specs.declared.state.Phase.{Phase}
+use Rattle.watcher.specs.declared.state.Phase.the-variants as phase
+use Rattle.watcher.specs.declared.state.Verdict.{Verdict}
+use Rattle.watcher.specs.declared.state.Refusal.the-variants.{AreaLength}
+use Rattle.watcher.specs.declared.state.Found.the-variants.{Fine, Refused}
+use Rattle.watcher.specs.Limits.{mostRecords, mostSignals, mostParameters, listBytes, areaWords}
+use Rattle.watcher.specs.Rules.{recordsOf}
+use Rattle.watcher.specs.Lists.{Test, firstRefusal, listTests, listsRefusal}
+use Rattle.watcher.specs.Numbers.{stageOf}
+use Rattle.watcher.specs.State.{ruleOf, parametersOf, ruleBytes, listBytesOf, isRefused, startRefuses}
+use Rattle.watcher.specs.State.{notZerosBehind, signalsAbove, bitsAbove, notZeroFrom, wrongRows, wrongInPhase}
+use Rattle.watcher.specs.State.{brokenState}
+use Rattle.watcher.specs.Calls.{wrongArea, startRefusal, padded}
+use Rattle.watcher.specs.Runs.{readRule, parametersIn}
+use Rattle.watcher.proofs.Decoded.{Accepted, fine-tests, tests-fine, first-fine, length-fine, Whole}
+use Rattle.watcher.proofs.Decoded.{accepted-list, accepted-few}
+use Rattle.watcher.proofs.Refusing.{length-most}
+use Rattle.rewriting.proofs.Placed.{read-past}
+use Rattle.watcher.proofs.Padding.{take-padded, zeros-padded, rule-padded}
+use Rattle.watcher.proofs.OwnRows.{bits-fine, unused-fine, rows-fine}
+
+-- tests one after another
+first-split : (ts us : List Test) → firstRefusal (ts ++ us) ≡ Fine
+    → (firstRefusal ts ≡ Fine) × (firstRefusal us ≡ Fine)
+unfolding firstRefusal
+first-split [] us e = (refl, e)
+first-split (t ∷ ts) us e =
+    let a = first-fine (t .holds) (t .gives) (firstRefusal (ts ++ us)) e in
+    let b = first-split ts us (a .1) in
+    (ap (λ x. cond x (Refused (t .gives)) (firstRefusal ts)) (a .0) ∙ b .0, b .1)
+
+first-join : (ts us : List Test) → firstRefusal ts ≡ Fine → firstRefusal (ts ++ us) ≡ firstRefusal us
+unfolding firstRefusal
+first-join [] us e = refl
+first-join (t ∷ ts) us e =
+    let a = first-fine (t .holds) (t .gives) (firstRefusal ts) e in
+    ap (λ x. cond x (Refused (t .gives)) (firstRefusal (ts ++ us))) (a .0) ∙ first-join ts us (a .1)
+
+-- start accepts lists that pass with an area of 1,664 words, and nothing else
+pub start-accepts : (rule signals ws : List ℕ) → listsRefusal rule signals ≡ Fine → length ws ≡ areaWords
+    → startRefusal rule signals ws ≡ Fine
+unfolding startRefusal wrongArea listsRefusal firstRefusal
+start-accepts rule signals ws e l =
+    first-join (listTests rule signals) _ e
+    ∙ ap (λ b. cond (not b) (Refused AreaLength) Fine) (eq-eqb (length ws) areaWords l)
+
+pub start-accepted : (rule signals ws : List ℕ) → startRefusal rule signals ws ≡ Fine
+    → Accepted rule signals × (length ws ≡ areaWords)
+unfolding startRefusal firstRefusal wrongArea listsRefusal
+start-accepted rule signals ws e =
+    let a = first-split (listTests rule signals) _ e in
+    let b = first-fine (wrongArea ws) _ _ (a .1) in
+    (fine-tests rule signals (a .0), eqb-true (length ws) areaWords (not-false _ (b .0)))
+
+-- a state with the lists that start was given, in some phase
+unfoldable pub stateIn : (rule signals : List ℕ) → Phase → Watcher
+stateIn rule signals p =
+    record {
+      rule = padded rule;
+      records = recordsOf rule;
+      list = padded signals;
+      signals = recordsOf signals;
+      phase = p;
+    }
+
+module _ (rule signals : List ℕ) (fine : Accepted rule signals) where
+  pub rule-short : length rule ≤ listBytes
+  rule-short = length-most rule (fine .long)
+
+  pub list-short : length signals ≤ listBytes
+  list-short = let w = accepted-list rule signals fine in omega (arith, w .whole, w .most)
+
+  -- it holds the rule
+  pub rule-in : (p : Phase) → ruleOf (stateIn rule signals p) ≡ readRule rule
+  unfolding ruleOf stateIn readRule
+  rule-in p = rule-padded rule rule-short (recordsOf rule)
+
+  pub parameters-in : (p : Phase) → parametersOf (stateIn rule signals p) ≡ parametersIn rule
+  unfolding parametersOf parametersIn
+  parameters-in p = ap parameters (rule-in p)
+
+  pub few-parameters : parametersIn rule ≤ 12
+  unfolding parametersIn readRule
+  few-parameters = accepted-few rule signals fine
+
+  -- start would not refuse its lists
+  pub lists-in : (p : Phase) → startRefuses (stateIn rule signals p) ≡ false
+  unfolding startRefuses ruleBytes listBytesOf stateIn isRefused
+  lists-in p =
+      ap₂ _||_ (le-ltb mostRecords (recordsOf rule) (r .most))
+      (ap₂ _||_ (le-ltb mostSignals (recordsOf signals) (l .most))
+      (ap isRefused
+      (ap₂ listsRefusal (own rule rule-short r) (own signals list-short l) ∙ tests-fine rule signals fine)))
+    where
+      r : Whole rule
+      r = length-fine rule (fine .long)
+
+      l : Whole signals
+      l = accepted-list rule signals fine
+
+      own : (list : List ℕ) → length list ≤ listBytes → Whole list → take (8 * recordsOf list) (padded list) ≡ list
+      own list short w = ap (λ n. take n (padded list)) (sym (w .whole)) ∙ take-padded list short
+
+  -- zeros stand behind them
+  pub zeros-in : (p : Phase) → notZerosBehind (stateIn rule signals p) ≡ false
+  unfolding notZerosBehind stateIn
+  zeros-in p =
+      ap₂ (λ a b. not a || not b)
+      (zeros-padded rule rule-short (8 * recordsOf rule) (omega (arith, (length-fine rule (fine .long)) .whole)))
+      (zeros-padded signals list-short (8 * recordsOf signals)
+      (omega (arith, (accepted-list rule signals fine) .whole)))
+
+  -- so the state is broken only by its phase or its area
+  pub broken-in : (p : Phase) (ws : List ℕ) → signalsAbove (recordsOf signals) (stageOf p) ≡ false
+      → bitsAbove (parametersIn rule) ws ≡ false → notZeroFrom (parametersIn rule) ws ≡ false
+      → wrongInPhase (stateIn rule signals p) ws (stageOf p) ≡ false → brokenState (stateIn rule signals p) ws ≡ false
+  unfolding brokenState stateIn
+  broken-in p ws above bits unused rows =
+      ap₂ _||_ (lists-in p)
+      (ap₂ _||_ (zeros-in p)
+      (ap₂ _||_ above
+      (ap₂ _||_ (ap (λ m. bitsAbove m ws) (parameters-in p) ∙ bits)
+      (ap₂ _||_ (ap (λ m. notZeroFrom m ws) (parameters-in p) ∙ unused) rows))))
+
+-- what is known is as the watcher makes it: a past row of the right shape for each parameter, no signal past the list
+pub record Lawful (rule signals : List ℕ) (s : Known (parametersIn rule)) : Type 0 where
+  pub long : length (s .past) ≡ parametersIn rule
+  pub shape : KnownShape (readRule rule) (parametersIn rule) s
+  pub below : s .last .signals < 2 ^ recordsOf signals
+
+-- the areas that belong to each phase
+module _ (rule signals : List ℕ) (fine : Accepted rule signals) where
+  pub fresh-fine : (remainder : Form (parametersIn rule))
+      → brokenState (stateIn rule signals phase.Fresh) (areaOf mostParameters (parametersIn rule) [] remainder)
+      ≡ false
+  unfolding stageOf signalsAbove wrongInPhase
+  fresh-fine remainder =
+      broken-in rule signals fine phase.Fresh (areaOf mostParameters m [] remainder) refl
+      (bits-fine m [] remainder) (unused-fine m [] remainder m (omega arith))
+      (unused-fine m [] remainder 0 (omega arith))
+    where
+      m : ℕ
+      m = parametersIn rule
+
+  pub running-fine : (s : Known (parametersIn rule)) → Lawful rule signals s
+      → brokenState (stateIn rule signals (phase.Running (s .last .time) (s .last .signals)))
+      (areaOf mostParameters (parametersIn rule) (s .past) (s .remainder))
+      ≡ false
+  unfolding stageOf signalsAbove wrongInPhase parametersOf parametersIn
+  running-fine s ok =
+      broken-in rule signals fine p ws
+      (lt-leb (2 ^ recordsOf signals) (s .last .signals) (ok .below))
+      (bits-fine m (s .past) (s .remainder))
+      (unused-fine m (s .past) (s .remainder) m (omega (arith, ok .long)))
+      (ap (λ r. wrongRows r (parameters r) (s .last) (pastIn (parameters r) ws)) (rule-in rule signals fine p)
+      ∙ ap (wrongRows (readRule rule) m (s .last))
+      (read-past mostParameters m (s .past) (s .remainder) few few (ok .long))
+      ∙ rows-fine (readRule rule) m (s .last) (s .past) (ok .shape))
+    where
+      m : ℕ
+      m = parameters (readRule rule)
+
+      p : Phase
+      p = phase.Running (s .last .time) (s .last .signals)
+
+      ws : List ℕ
+      ws = areaOf mostParameters m (s .past) (s .remainder)
+
+      few : m ≤ 12
+      few = few-parameters rule signals fine
+
+  pub closed-fine : (v : Verdict) (past : List (Form (parametersIn rule))) (remainder : Form (parametersIn rule))
+      → length past ≡ parametersIn rule
+      → brokenState (stateIn rule signals (phase.Closed v))
+      (areaOf mostParameters (parametersIn rule) past remainder)
+      ≡ false
+  unfolding stageOf signalsAbove wrongInPhase
+  closed-fine v past remainder long =
+      broken-in rule signals fine (phase.Closed v) (areaOf mostParameters (parametersIn rule) past remainder) refl
+      (bits-fine (parametersIn rule) past remainder)
+      (unused-fine (parametersIn rule) past remainder (parametersIn rule) (omega (arith, long))) refl
