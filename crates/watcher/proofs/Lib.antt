@@ -6,12 +6,15 @@ pub mod Speed
 pub mod Decoded
 pub mod Checking
 pub mod Refusing
-pub mod Horizons
 pub mod HeldLaws
 pub mod ShapeLaws
 pub mod RecordRows
 pub mod Breaking
+pub mod Horizons
 pub mod Examples
+pub mod Testing
+pub mod TurnLaws
+pub mod Turning
 pub mod Padding
 pub mod OwnRows
 pub mod OwnStates

@@ -10,5 +10,6 @@ pub mod Calls
 pub mod Runs
 pub mod BadWatchers
 pub mod Examples
-pub mod Horizons
 pub mod Shapes
+pub mod Turns
+pub mod Horizons

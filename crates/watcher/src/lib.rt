@@ -1,4 +1,5 @@
-// The watcher: its state with its limits, and the checks of rule list, signal list, log record and state.
+// The watcher: its state with its limits, the checks of rule list, signal list, log record and state, and the calls.
+pub mod calls;
 mod held;
 mod horizon;
 mod lists;
@@ -7,3 +8,4 @@ pub mod refusals;
 mod shape;
 mod signals;
 pub mod state;
+mod turns;

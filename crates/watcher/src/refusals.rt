@@ -4,12 +4,19 @@ use crate::lists::many_parameters;
 use crate::lists::records_of;
 use crate::lists::rule_breaks;
 use crate::lists::wrong_length;
+use crate::readings::time_of;
+use crate::readings::wrong_record;
+use crate::shape::broken_state;
 use crate::signals::bad_signals;
 use crate::signals::names_missing;
 use crate::state::Found;
+use crate::state::Phase;
 use crate::state::Refusal;
+use crate::state::Watcher;
 ghost use mathlib.Core.Path.{_≡_};
-ghost use Rattle.watcher.specs.Lists.{listsRefusal};
+ghost use Rattle.watcher.specs.Lists.{firstRefusal, listsRefusal};
+ghost use Rattle.watcher.specs.Calls.{isClosed, isFresh, tooEarly, startRefusal, stateTests, feedRefusal, closeRefusal};
+ghost use Rattle.watcher.specs.Numbers.{stageOf};
 
 // What is refused of the lists that start is given: refusals 1 to 6.
 pub fn check_lists(rule: &[u8], signals: &[u8]) -> Found
@@ -37,4 +44,116 @@ pub fn check_lists(rule: &[u8], signals: &[u8]) -> Found
         return Found::Refused(Refusal::SignalMissing);
     }
     Found::Fine
+}
+
+// What is refused of a start: refusals 1 to 7.
+pub(crate) fn start_refusal(rule: &[u8], signals: &[u8], area: &[u64]) -> Found
+    ensures { λ r. ⌜ r ≡ startRefusal (now (rule .entry)) (now (signals .entry)) (now (area .entry)) ⌝ }
+{
+    let found = check_lists(rule, signals);
+    match found {
+        Found::Refused(refusal) => Found::Refused(refusal),
+        Found::Fine => {
+            if area.len() != Watcher::WORDS {
+                return Found::Refused(Refusal::AreaLength);
+            }
+            Found::Fine
+        }
+    }
+}
+
+// Whether the watcher is closed.
+fn is_closed(phase: Phase) -> bool
+    ensures { λ r. ⌜ r ≡ isClosed (stageOf phase) ⌝ }
+{
+    match phase {
+        Phase::Fresh => false,
+        Phase::Running {
+            time: _,
+            signals: _,
+        } => false,
+        Phase::Closed(_) => true,
+    }
+}
+
+// What feed and close test first: refusals 7, 12 and 10.
+fn state_refusal(watcher: Watcher, area: &[u64]) -> Found
+    ensures { λ r. ⌜ r ≡ firstRefusal (stateTests watcher (now (area .entry))) ⌝ }
+{
+    if area.len() != Watcher::WORDS {
+        return Found::Refused(Refusal::AreaLength);
+    }
+    if broken_state(watcher, area) {
+        return Found::Refused(Refusal::BrokenState);
+    }
+    let phase = watcher.phase;
+    if is_closed(phase) {
+        return Found::Refused(Refusal::AlreadyClosed);
+    }
+    Found::Fine
+}
+
+// Whether the record's time is lower than the last accepted record's.
+fn too_early(phase: Phase, time: u32) -> bool
+    ensures { λ r. ⌜ r ≡ tooEarly (stageOf phase) time ⌝ }
+{
+    match phase {
+        Phase::Fresh => false,
+        Phase::Running {
+            time: last,
+            signals: _,
+        } => time < last,
+        Phase::Closed(_) => false,
+    }
+}
+
+// Whether nothing was fed.
+fn is_fresh(phase: Phase) -> bool
+    ensures { λ r. ⌜ r ≡ isFresh (stageOf phase) ⌝ }
+{
+    match phase {
+        Phase::Fresh => true,
+        Phase::Running {
+            time: _,
+            signals: _,
+        } => false,
+        Phase::Closed(_) => false,
+    }
+}
+
+// Would this record be refused, and by which number: refusals 7, 12, 10, 8 and 9.
+pub(crate) fn feed_refusal(watcher: Watcher, bytes: &[u8], area: &[u64]) -> Found
+    ensures { λ r. ⌜ r ≡ feedRefusal watcher (now (bytes .entry)) (now (area .entry)) ⌝ }
+{
+    let found = state_refusal(watcher, area);
+    match found {
+        Found::Refused(refusal) => Found::Refused(refusal),
+        Found::Fine => {
+            if wrong_record(bytes) {
+                return Found::Refused(Refusal::LogRecord);
+            }
+            let phase = watcher.phase;
+            if too_early(phase, time_of(bytes)) {
+                return Found::Refused(Refusal::LogTime);
+            }
+            Found::Fine
+        }
+    }
+}
+
+// What is refused of closing: refusals 7, 12, 10 and 11.
+pub(crate) fn close_refusal(watcher: Watcher, area: &[u64]) -> Found
+    ensures { λ r. ⌜ r ≡ closeRefusal watcher (now (area .entry)) ⌝ }
+{
+    let found = state_refusal(watcher, area);
+    match found {
+        Found::Refused(refusal) => Found::Refused(refusal),
+        Found::Fine => {
+            let phase = watcher.phase;
+            if is_fresh(phase) {
+                return Found::Refused(Refusal::NothingFed);
+            }
+            Found::Fine
+        }
+    }
 }

@@ -120,6 +120,8 @@ impl Watcher {
 
     pub const WORDS: usize = 1664;
 
+    pub const TABLE_WORDS: usize = 1024;
+
     // The constants above are the limits that the definitions name.
     pub fn limits() -> Limits
         ensures { λ r. ⌜ r ≡ limitsOf ⌝ }

@@ -1,0 +1,68 @@
+-- What the functions behind start, feed and close say. Nobody outside has to believe it.
+use mathlib.Core.Path.{_≡_}
+use mathlib.Core.Bool.{Bool, false}
+use mathlib.Core.List.{List, []}
+use Prim.Native.Nat.{ℕ, _^_, _<_}
+use lib.ListN.{length, getD}
+use Rattle.meaning.specs.Rule.{Node, Entry, parameters}
+use Rattle.meaning.specs.Words.{Known}
+use Rattle.meaning.specs.Words as words
+use Rattle.rewriting.specs.declared.step.Plan.{Plan}
+use Rattle.rewriting.specs.declared.step.Moment.{Moment}
+use Rattle.rewriting.specs.Decode.{ruleIn}
+use Rattle.rewriting.specs.Known.{areaOf}
+use Rattle.rewriting.specs.Plans.{entryFor}
+use Rattle.watcher.specs.declared.state.Verdict.{Verdict}
+use Rattle.watcher.specs.declared.state.Phase.the-variants as phase
+use Rattle.watcher.specs.declared.state.Watcher.{Watcher}
+use Rattle.watcher.specs.Limits.{mostParameters, areaWords}
+use Rattle.watcher.specs.Rules.{recordsOf}
+use Rattle.watcher.specs.Numbers.{Stage, fresh, running, closed, stageOf}
+use Rattle.watcher.specs.State.{ruleOf, parametersOf, brokenState}
+use Rattle.watcher.specs.Calls.{knownNext}
+
+-- the plan of the rule in a list's first records, of a state's rule, and of a rule list
+abbrev pub planOn : List ℕ → ℕ → Plan
+planOn list records = record { records = records; m = parameters (ruleIn list records); places = mostParameters }
+
+abbrev pub planOf : Watcher → Plan
+planOf w = planOn (w .rule) (w .records)
+
+abbrev pub planIn : List ℕ → Plan
+planIn rule = planOn rule (recordsOf rule)
+
+-- a state and an area that are handed in, and pass 7 and 12
+pub record Passed (w : Watcher) (ws : List ℕ) : Type 0 where
+  pub long : length ws ≡ areaWords
+  pub small : (i : ℕ) → getD ws i 0 < 2 ^ 64
+  pub whole : brokenState w ws ≡ false
+
+-- the area after a record
+unfoldable pub rewrittenOf : Watcher → Moment → List ℕ → List ℕ
+rewrittenOf w new ws =
+    let m : ℕ = parametersOf w in
+    let s : Known m = knownNext m (ruleOf w) ws (entryFor new) (stageOf (w .phase)) in
+    areaOf mostParameters m (s .past) (s .remainder)
+
+-- the last record of a state that has one
+unfoldable pub lastIn : Stage → Entry
+lastIn fresh = record { time = 0; signals = 0 }
+lastIn (running e) = e
+lastIn (closed b) = record { time = 0; signals = 0 }
+
+-- the state closed with a verdict
+unfoldable pub endedState : Watcher → Verdict → Watcher
+endedState w verdict =
+    record {
+      rule = w .rule;
+      records = w .records;
+      list = w .list;
+      signals = w .signals;
+      phase = phase.Closed verdict;
+    }
+
+-- the area at start
+unfoldable pub begunOf : List ℕ → List ℕ
+begunOf rule =
+    let held : List Node = ruleIn rule (recordsOf rule) in
+    areaOf mostParameters (parameters held) [] (words.start (parameters held) held)

@@ -1,0 +1,214 @@
+// Start, feed and close: the refusals first, then the rewriting on the lent area.
+use crate::held::start_refuses;
+use crate::horizon::horizon_in;
+use crate::lists::records_of;
+use crate::readings::signal_word;
+use crate::readings::time_of;
+use crate::refusals::close_refusal;
+use crate::refusals::feed_refusal;
+use crate::refusals::start_refusal;
+use crate::state::Answer;
+use crate::state::End;
+use crate::state::Ended;
+use crate::state::Fed;
+use crate::state::Found;
+use crate::state::Phase;
+use crate::state::Report;
+use crate::state::Started;
+use crate::state::Verdict;
+use crate::state::Wait;
+use crate::state::Watcher;
+use crate::turns::begin_area;
+use crate::turns::close_area;
+use crate::turns::last_of;
+use crate::turns::padded;
+use crate::turns::rewrite_area;
+use crate::turns::word_of;
+use forms::area::load;
+use rewriting::step::Moment;
+ghost use mathlib.Core.Path.{_≡_};
+ghost use lib.ListN.{length};
+ghost use Rattle.rewriting.specs.Plans.{entryFor};
+ghost use Rattle.watcher.specs.declared.state.Found.the-variants.{Fine};
+ghost use Rattle.watcher.specs.Limits.{areaWords};
+ghost use Rattle.watcher.specs.Lists.{listsRefusal};
+ghost use Rattle.watcher.specs.Calls.{zeroState, freshState, runningState};
+ghost use Rattle.watcher.specs.Calls.{startWith, startOf, feedRefusal, feedWith, feedOf, closeWith, closeOf, waitOf};
+ghost use Rattle.watcher.specs.Turns.{Passed, endedState};
+ghost use Rattle.watcher.specs.Numbers.{verdictFor, horizonFor};
+
+// A fresh state of zeros.
+fn zero_state() -> Watcher
+    ensures { λ r. ⌜ r ≡ zeroState ⌝ }
+{
+    Watcher {
+        rule: [0; Watcher::LIST_BYTES],
+        records: 0,
+        list: [0; Watcher::LIST_BYTES],
+        signals: 0,
+        phase: Phase::Fresh,
+    }
+}
+
+// A fresh state with a rule and a list.
+fn fresh_state(rule: &[u8], signals: &[u8]) -> Watcher
+    ensures { λ r. ⌜ r ≡ freshState (now (rule .entry)) (now (signals .entry)) ⌝ }
+{
+    Watcher {
+        rule: padded(rule),
+        records: records_of(rule),
+        list: padded(signals),
+        signals: records_of(signals),
+        phase: Phase::Fresh,
+    }
+}
+
+// The state with its last record.
+fn running_state(watcher: Watcher, last: Moment) -> Watcher
+    ensures { λ r. ⌜ r ≡ runningState watcher (entryFor last) ⌝ }
+{
+    let rule = watcher.rule;
+    let list = watcher.list;
+    Watcher {
+        rule,
+        records: watcher.records,
+        list,
+        signals: watcher.signals,
+        phase: Phase::Running {
+            time: last.time,
+            signals: last.signals,
+        },
+    }
+}
+
+// The verdict of a value.
+fn verdict_for(value: bool) -> Verdict
+    ensures { λ r. ⌜ r ≡ verdictFor value ⌝ }
+{
+    if value {
+        Verdict::Kept
+    } else {
+        Verdict::Broken
+    }
+}
+
+// The state closed with a verdict.
+fn closed_state(watcher: Watcher, verdict: Verdict) -> Watcher
+    ensures { λ r. ⌜ r ≡ endedState watcher verdict ⌝ }
+{
+    let rule = watcher.rule;
+    let list = watcher.list;
+    Watcher {
+        rule,
+        records: watcher.records,
+        list,
+        signals: watcher.signals,
+        phase: Phase::Closed(verdict),
+    }
+}
+
+// Start with lists and an area that are not refused.
+fn begin(rule: &[u8], signals: &[u8], area: &mut [u64]) -> Started
+    requires { ⌜ (listsRefusal (now rule) (now signals) ≡ Fine) × (length (now area) ≡ areaWords) ⌝ }
+    ensures { λ r. ⌜ (r, now (area .exit)) ≡ startWith Fine (now (rule .entry)) (now (signals .entry)) (now (area .entry)) ⌝ }
+{
+    begin_area(rule, area);
+    Started {
+        found: Found::Fine,
+        next: fresh_state(rule, signals),
+    }
+}
+
+// Feed a record that is not refused.
+fn advance(watcher: Watcher, bytes: &[u8], area: &mut [u64]) -> Fed
+    requires { ⌜ Passed watcher (now area) ⌝ }
+    ensures { λ r. ⌜ (r, now (area .exit)) ≡ feedWith Fine watcher (now (bytes .entry)) (now (area .entry)) ⌝ }
+{
+    let list = watcher.list;
+    let new = Moment {
+        time: time_of(bytes),
+        signals: signal_word(&list, watcher.signals, bytes),
+    };
+    rewrite_area(watcher, new, area);
+    let word = word_of(load(area, Watcher::PARAMETERS));
+    Fed {
+        answer: Answer::Accepted(Report { word }),
+        next: running_state(watcher, new),
+    }
+}
+
+// Close a log that is not refused.
+fn finish(watcher: Watcher, area: &mut [u64]) -> Ended
+    requires { ⌜ Passed watcher (now area) ⌝ }
+    ensures { λ r. ⌜ (r, now (area .exit)) ≡ closeWith Fine watcher (now (area .entry)) ⌝ }
+{
+    let phase = watcher.phase;
+    let value = close_area(watcher, last_of(phase), area);
+    let verdict = verdict_for(value);
+    Ended {
+        answer: End::Closed(verdict),
+        next: closed_state(watcher, verdict),
+    }
+}
+
+impl Watcher {
+    // Start a watcher on a rule, a signal list and a work area.
+    pub fn start(rule: &[u8], signals: &[u8], area: &mut [u64]) -> Started
+        ensures { λ r. ⌜ (r, now (area .exit)) ≡ startOf (now (rule .entry)) (now (signals .entry)) (now (area .entry)) ⌝ }
+    {
+        let found = start_refusal(rule, signals, area);
+        match found {
+            Found::Refused(refusal) => Started {
+                found: Found::Refused(refusal),
+                next: zero_state(),
+            },
+            Found::Fine => begin(rule, signals, area),
+        }
+    }
+
+    // Would this record be refused, and by which number.
+    pub fn would_refuse(self, bytes: &[u8], area: &[u64]) -> Found
+        ensures { λ r. ⌜ r ≡ feedRefusal self (now (bytes .entry)) (now (area .entry)) ⌝ }
+    {
+        feed_refusal(self, bytes, area)
+    }
+
+    // Feed one record.
+    pub fn feed(self, bytes: &[u8], area: &mut [u64]) -> Fed
+        ensures { λ r. ⌜ (r, now (area .exit)) ≡ feedOf self (now (bytes .entry)) (now (area .entry)) ⌝ }
+    {
+        let found = self.would_refuse(bytes, area);
+        match found {
+            Found::Refused(refusal) => Fed {
+                answer: Answer::Refused(refusal),
+                next: self,
+            },
+            Found::Fine => advance(self, bytes, area),
+        }
+    }
+
+    // Close the log.
+    pub fn close(self, area: &mut [u64]) -> Ended
+        ensures { λ r. ⌜ (r, now (area .exit)) ≡ closeOf self (now (area .entry)) ⌝ }
+    {
+        let found = close_refusal(self, area);
+        match found {
+            Found::Refused(refusal) => Ended {
+                answer: End::Refused(refusal),
+                next: self,
+            },
+            Found::Fine => finish(self, area),
+        }
+    }
+
+    // How long the rule can stay open, in minutes; where start refuses the rule or the list there is no limit.
+    pub fn horizon(self) -> Wait
+        ensures { λ r. ⌜ horizonFor r ≡ waitOf self ⌝ }
+    {
+        if start_refuses(self) {
+            return Wait::Forever;
+        }
+        let rule = self.rule;
+        horizon_in(&rule, self.records)
+    }
+}

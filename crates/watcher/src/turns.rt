@@ -1,0 +1,128 @@
+// What start, feed and close make of the lent area.
+use crate::lists::records_of;
+use crate::state::Phase;
+use crate::state::Watcher;
+use crate::state::Word;
+use forms::rows::Truth;
+use forms::rows::which_constant;
+use ground::bytes::byte;
+use rewriting::ending;
+use rewriting::rewrite;
+use rewriting::rule::parameters_in;
+use rewriting::step::Moment;
+use rewriting::step::Plan;
+use rewriting::walk::forms_of;
+ghost use mathlib.Core.Path.{_≡_};
+ghost use Prim.Native.Nat.{_≤_};
+ghost use lib.ListN.{length};
+ghost use Rattle.meaning.specs.Words.{word};
+ghost use Rattle.forms.specs.Rows.{OfForm};
+ghost use Rattle.rewriting.specs.Plans.{Sound, HoldsForms, readIn, entryFor, closedWith};
+ghost use Rattle.watcher.specs.Limits.{mostRecords, mostParameters, areaWords};
+ghost use Rattle.watcher.specs.Numbers.{saying, stageOf};
+ghost use Rattle.watcher.specs.Rules.{recordsOf};
+ghost use Rattle.watcher.specs.State.{ruleOf, parametersOf};
+ghost use Rattle.watcher.specs.Calls.{padded as paddedOf};
+ghost use Rattle.watcher.specs.Turns.{planOn, planOf, planIn, Passed, rewrittenOf, lastIn, begunOf};
+
+// A list with zeros behind it.
+pub(crate) fn padded(list: &[u8]) -> [u8; Watcher::LIST_BYTES]
+    ensures { λ r. ⌜ r ≡ paddedOf (now (list .entry)) ⌝ }
+{
+    let mut bytes = [0u8; Watcher::LIST_BYTES];
+    for i in 0..Watcher::LIST_BYTES {
+        bytes[i] = byte(list, i);
+    }
+    bytes
+}
+
+// The last record of a state that has one.
+pub(crate) fn last_of(phase: Phase) -> Moment
+    ensures { λ r. ⌜ entryFor r ≡ lastIn (stageOf phase) ⌝ }
+{
+    match phase {
+        Phase::Fresh => Moment {
+            time: 0,
+            signals: 0,
+        },
+        Phase::Running { time, signals } => Moment { time, signals },
+        Phase::Closed(_) => Moment {
+            time: 0,
+            signals: 0,
+        },
+    }
+}
+
+// The word of a remainder.
+pub(crate) fn word_of(row: [u64; 64]) -> Word
+    ensures { λ r. ⌜ OfForm (λ m f. saying (word m f)) row r ⌝ }
+{
+    let truth = which_constant(row);
+    match truth {
+        Truth::True => Word::Kept,
+        Truth::False => Word::Broken,
+        Truth::Open => Word::Pending,
+    }
+}
+
+// The plan of a rule with so many records.
+fn plan_for(rule: &[u8], records: usize) -> Plan
+    requires { ⌜ records ≤ mostRecords ⌝ }
+    ensures { λ r. ⌜ r ≡ planOn (now (rule .entry)) records ⌝ }
+{
+    Plan {
+        records,
+        m: parameters_in(rule, records),
+        places: Watcher::PARAMETERS,
+    }
+}
+
+// The table of the forms of a rule's records.
+fn table_for(rule: &[u8], plan: Plan) -> [u64; Watcher::TABLE_WORDS]
+    requires { ⌜ Sound (now rule) plan × (plan .records ≤ mostRecords) ⌝ }
+    ensures { λ r. ⌜ HoldsForms (now (rule .entry)) plan r ⌝ }
+{
+    let mut table = [0u64; Watcher::TABLE_WORDS];
+    forms_of(rule, plan.records, plan.m, &mut table);
+    table
+}
+
+// The area at start.
+pub(crate) fn begin_area(rule: &[u8], area: &mut [u64])
+    requires { ⌜ Sound (now rule) (planIn (now rule)) × (recordsOf (now rule) ≤ mostRecords) × (length (now area) ≡ areaWords) ⌝ }
+    ensures { λ _. ⌜ now (area .exit) ≡ begunOf (now (rule .entry)) ⌝ }
+{
+    let plan = plan_for(rule, records_of(rule));
+    let table = table_for(rule, plan);
+    ending::begin(rule, plan, &table, area);
+}
+
+// The area after a record: the first leaves the remainder, a later one is fed.
+pub(crate) fn rewrite_area(watcher: Watcher, new: Moment, area: &mut [u64])
+    requires { ⌜ Passed watcher (now area) ⌝ }
+    ensures { λ _. ⌜ (now (area .exit) ≡ rewrittenOf watcher new (now (area .entry))) × (parametersOf watcher ≤ mostParameters) ⌝ }
+{
+    let rule = watcher.rule;
+    let plan = plan_for(&rule, watcher.records);
+    let table = table_for(&rule, plan);
+    let phase = watcher.phase;
+    match phase {
+        Phase::Fresh => rewrite::first(&rule, plan, new, &table, area),
+        Phase::Running { time, signals } => {
+            let last = Moment { time, signals };
+            rewrite::feed(&rule, plan, last, new, &table, area)
+        }
+        Phase::Closed(_) => rewrite::first(&rule, plan, new, &table, area),
+    }
+}
+
+// The area after closing, and the value were this the last record.
+pub(crate) fn close_area(watcher: Watcher, last: Moment, area: &mut [u64]) -> bool
+    requires { ⌜ Passed watcher (now area) ⌝ }
+    ensures { λ r. ⌜ (r, now (area .exit)) ≡ closedWith (planOf watcher) (ruleOf watcher) (readIn (planOf watcher) (now (area .entry)) last) ⌝ }
+{
+    let rule = watcher.rule;
+    let plan = plan_for(&rule, watcher.records);
+    let table = table_for(&rule, plan);
+    ending::close(&rule, plan, last, &table, area)
+}
