@@ -4,3 +4,4 @@ pub mod Tabs
 pub mod Bits
 pub mod Numbers
 pub mod ByteLaws
+pub mod OnlyOne

@@ -14,3 +14,4 @@ pub mod Lasting
 pub mod Laid
 pub mod Feeding
 pub mod Rewritten
+pub mod OnlyOne

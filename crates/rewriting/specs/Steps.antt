@@ -11,7 +11,7 @@ use Rattle.meaning.specs.Rule.{Node, Entry}
 use Rattle.meaning.specs.Rewriting.{put, onlyIf, formOf, rowTo, nextRow, untilLater, derivedRow}
 use Rattle.meaning.specs.Rewriting.{previousRow, sinceEarlier, pastRow}
 use Rattle.meaning.specs.Rewriting as rewriting
-use Rattle.rewriting.specs.Decode.{intervalOf, nodeOf}
+use Rattle.rewriting.specs.Decode.{byteOf, intervalOf, nodeOf}
 use Rattle.rewriting.specs.declared.step.Record.{Record}
 use Rattle.rewriting.specs.declared.step.Step.{Step}
 use Rattle.rewriting.specs.declared.step.Neighbour.{Neighbour}
@@ -59,6 +59,17 @@ intervalIn step = intervalOf (step .record .low) (step .record .high)
 
 unfoldable pub nodeFor : Record → Node
 nodeFor d = nodeOf (d .kind) (d .left) (d .right) (d .low) (d .high)
+
+-- record k of a list
+unfoldable pub recordIn : List ℕ → ℕ → Record
+recordIn list k =
+    record {
+      kind = byteOf list k 0;
+      left = byteOf list k 1;
+      right = byteOf list k 2;
+      low = byteOf list k 4;
+      high = byteOf list k 5;
+    }
 
 unfoldable pub entryIn : Step → Entry
 entryIn step = record { time = step .here; signals = step .signals }

@@ -6,7 +6,7 @@ ghost use Prim.Native.Nat.{_<_, _≤_};
 ghost use Rattle.meaning.specs.Interval.{shifts};
 ghost use Rattle.meaning.specs.Rule.{count, parameters};
 ghost use Rattle.rewriting.specs.Decode.{recordBytes, byteOf, intervalOf, nodeIn, ruleIn};
-ghost use Rattle.rewriting.specs.Steps.{nodeFor};
+ghost use Rattle.rewriting.specs.Steps.{recordIn};
 
 // Bytes of a record.
 const RECORD_BYTES: usize = 8;
@@ -20,7 +20,7 @@ pub fn byte_of(list: &[u8], k: usize, i: usize) -> u8
 }
 
 // How many shifts an interval has: 0 to `high`, or to `low` with no upper end.
-pub fn shifts_of(low: u8, high: u8) -> usize
+fn shifts_of(low: u8, high: u8) -> usize
     ensures { λ r. ⌜ (r ≡ shifts (intervalOf low high)) × (r ≤ 256) ⌝ }
 {
     if high == 255 {
@@ -58,7 +58,7 @@ pub fn parameters_in(list: &[u8], n: usize) -> usize
 // Record `k` of the list.
 pub fn record_at(list: &[u8], k: usize) -> Record
     requires { ⌜ k < 64 ⌝ }
-    ensures { λ r. ⌜ (nodeFor r ≡ nodeIn (now (list .entry)) k) × (r .kind ≡ byteOf (now (list .entry)) k 0) ⌝ }
+    ensures { λ r. ⌜ r ≡ recordIn (now (list .entry)) k ⌝ }
 {
     Record {
         kind: byte_of(list, k, 0),

@@ -24,6 +24,7 @@ pub mod Runs
 pub mod OwnWork
 pub mod Decided
 pub mod Demands
+pub mod Demanded
 pub mod ExampleRuns
 pub mod BadWatchers
 pub mod Scratch

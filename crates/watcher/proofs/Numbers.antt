@@ -1,7 +1,6 @@
 -- Answers that have the same number, or the same value, are the same answer.
 -- Assumes nothing.
 use mathlib.Core.Path.{_≡_, refl, sym, ap, _∙_}
-use mathlib.Core.Bool.{cond}
 use mathlib.Core.List.{List, [], _∷_}
 use Prim.Native.Nat.{ℕ}
 use lib.ListN.{getD}
@@ -11,12 +10,15 @@ use Rattle.watcher.specs.declared.state.Refusal.{Refusal}
 use Rattle.watcher.specs.declared.state.Refusal.the-variants.{RuleLength, RuleRecord, RuleTwins, RuleParameters}
 use Rattle.watcher.specs.declared.state.Refusal.the-variants.{SignalList, SignalMissing, AreaLength, LogRecord}
 use Rattle.watcher.specs.declared.state.Refusal.the-variants.{LogTime, AlreadyClosed, NothingFed, BrokenState}
-use Rattle.meaning.specs.Words as words
+use Rattle.meaning.specs.Horizon.{Horizon, within, never}
 use Rattle.watcher.specs.declared.state.Word.{Word}
 use Rattle.watcher.specs.declared.state.Word.the-variants as word
 use Rattle.watcher.specs.declared.state.Phase.{Phase}
 use Rattle.watcher.specs.declared.state.Phase.the-variants as phase
-use Rattle.watcher.specs.Numbers.{wordOf, verdictValue, Stage, fresh, running, closed, stageOf, refusalNumber}
+use Rattle.watcher.specs.declared.state.Wait.{Wait}
+use Rattle.watcher.specs.declared.state.Wait.the-variants as wait
+use Rattle.watcher.specs.Numbers.{wordOf, saying, verdictValue, verdictFor, horizonFor}
+use Rattle.watcher.specs.Numbers.{Stage, fresh, running, closed, stageOf, refusalNumber}
 
 -- the refusals from number 1 on
 abbrev refusals : List Refusal
@@ -45,33 +47,28 @@ back BrokenState = refl
 pub refusal-number-one : (a b : Refusal) → refusalNumber a ≡ refusalNumber b → a ≡ b
 refusal-number-one a b e = sym (back a) ∙ ap numbered e ∙ back b
 
-valued : (v : Verdict) → cond (verdictValue v) Kept Broken ≡ v
-unfolding verdictValue
+pub valued : (v : Verdict) → verdictFor (verdictValue v) ≡ v
+unfolding verdictValue verdictFor
 valued Kept = refl
 valued Broken = refl
 
 pub verdict-value-one : (a b : Verdict) → verdictValue a ≡ verdictValue b → a ≡ b
-verdict-value-one a b e = sym (valued a) ∙ ap (λ t. cond t Kept Broken) e ∙ valued b
+verdict-value-one a b e = sym (valued a) ∙ ap verdictFor e ∙ valued b
 
--- the answer that a word of the meaning, or a stage of the log, is
-abbrev worded : words.Word → Word
-worded words.kept = word.Kept
-worded words.broken = word.Broken
-worded words.pending = word.Pending
-
-spoken : (w : Word) → worded (wordOf w) ≡ w
-unfolding wordOf
+pub spoken : (w : Word) → saying (wordOf w) ≡ w
+unfolding wordOf saying
 spoken word.Kept = refl
 spoken word.Broken = refl
 spoken word.Pending = refl
 
 pub word-one : (a b : Word) → wordOf a ≡ wordOf b → a ≡ b
-word-one a b e = sym (spoken a) ∙ ap worded e ∙ spoken b
+word-one a b e = sym (spoken a) ∙ ap saying e ∙ spoken b
 
+-- the phase that a stage of the log is
 abbrev staged : Stage → Phase
 staged fresh = phase.Fresh
 staged (running e) = phase.Running (e .time) (e .signals)
-staged (closed t) = phase.Closed (cond t Kept Broken)
+staged (closed t) = phase.Closed (verdictFor t)
 
 seen : (p : Phase) → staged (stageOf p) ≡ p
 unfolding stageOf
@@ -81,3 +78,16 @@ seen (phase.Closed v) = ap phase.Closed (valued v)
 
 pub stage-one : (a b : Phase) → stageOf a ≡ stageOf b → a ≡ b
 stage-one a b e = sym (seen a) ∙ ap staged e ∙ seen b
+
+-- the answer that a horizon is
+abbrev waited : Horizon → Wait
+waited never = wait.Forever
+waited (within h) = wait.Minutes h
+
+told : (a : Wait) → waited (horizonFor a) ≡ a
+unfolding horizonFor
+told wait.Forever = refl
+told (wait.Minutes h) = refl
+
+pub horizon-one : (a b : Wait) → horizonFor a ≡ horizonFor b → a ≡ b
+horizon-one a b e = sym (told a) ∙ ap waited e ∙ told b

@@ -5,6 +5,7 @@ use mathlib.Core.Bool.{Bool, true, false, not, _&&_, _||_}
 use mathlib.Core.List.{List, _++_}
 use Prim.Native.Nat.{ℕ, _+_, _≤_, _<_}
 use native.Mathlib.Omega.{arith}
+use lib.ListN.{length}
 use lib.Dec.{eqb, leb}
 use Rattle.ground.proofs.Folds.{fold-cong}
 use Rattle.ground.proofs.Tabs.{tab-cong}
@@ -18,7 +19,7 @@ use Rattle.watcher.specs.declared.state.Found.{Found}
 use Rattle.watcher.specs.declared.state.Found.the-variants as found
 use Rattle.watcher.specs.declared.state.Answer.the-variants as answer
 use Rattle.watcher.specs.declared.state.End.the-variants as end
-use Rattle.watcher.specs.Limits.{mostParameters, areaWords}
+use Rattle.watcher.specs.Limits.{mostParameters, listBytes, areaWords}
 use Rattle.watcher.specs.Numbers.{saying, verdictFor, Stage, fresh, running, closed, stageOf}
 use Rattle.watcher.specs.State.{parametersOf, startRefuses, notZerosBehind, signalsAbove, bitsAbove, zeroRow}
 use Rattle.watcher.specs.State.{notZeroFrom, wrongRows, wrongInPhase, brokenState, ruleOf}
@@ -28,6 +29,7 @@ use Rattle.watcher.specs.Calls.{wrongArea, stateTests, startRefusal, fee
 use Rattle.watcher.specs.Calls.{startWith, startOf, feedWith, feedOf, closeWith, closeOf, knownNext, knownNow}
 use Rattle.watcher.specs.Calls.{runningState, closedState}
 use Rattle.watcher.specs.Runs.{Alike}
+use Rattle.watcher.proofs.HeldLaws.{held-few}
 use Rattle.watcher.proofs.Decoded.{neither, first-fine}
 
 -- a refused start leaves the area, and gives a state of zeros
@@ -109,8 +111,11 @@ module _ (a b : List ℕ) (alike : Alike a b) where
   unfolding bitsAbove
   bits-same m = fold-cong _||_ false (mostParameters + 1) _ _ (λ j h. ap (λ row. not (fits m row)) (alike .rows j h))
 
-  -- a state of the machine: a rule that start would not refuse has at most twelve parameters
-  module _ (w : Watcher) (few : startRefuses w ≡ false → parametersOf w ≤ mostParameters) where
+  -- a state's rule is an array of 128 bytes
+  module _ (w : Watcher) (long : length (w .rule) ≡ listBytes) where
+    few : startRefuses w ≡ false → parametersOf w ≤ mostParameters
+    few e = held-few w e long
+
     phase-same : parametersOf w ≤ mostParameters → (stage : Stage) → wrongInPhase w a stage ≡ wrongInPhase w b stage
     unfolding wrongInPhase
     phase-same h fresh = zeros-same 0

@@ -8,6 +8,7 @@ pub mod Numbers
 pub mod State
 pub mod Calls
 pub mod Runs
+pub mod Demands
 pub mod BadWatchers
 pub mod Examples
 pub mod Shapes

@@ -1,8 +1,7 @@
 -- `rule::record_at` meets its contract: the five bytes that a record has.
 -- Assumes nothing.
 use borrow.Author.Needs.{needs}
-use Rattle.rewriting.specs.Decode.{nodeIn}
-use Rattle.rewriting.specs.Steps.{nodeFor}
+use Rattle.rewriting.specs.Steps.{recordIn}
 use Rattle.rewriting.proofs.rule.record_at.Statement.{statement}
 use Rattle.rewriting.proofs.rule.record_at.Tie as tie
 
@@ -22,8 +21,8 @@ byte-of-requires-5 : tie.Need-byte-of-requires-5
 byte-of-requires-5 c κs = search needs
 
 returns : tie.Need-returns
-unfolding nodeFor nodeIn
-returns c = (cc, search needs)
+unfolding recordIn
+returns c = cc
 
 pub record-at-spec : {M : Type 1} → statement M
 record-at-spec =

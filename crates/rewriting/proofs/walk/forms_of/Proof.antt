@@ -13,6 +13,7 @@ use Rattle.rewriting.specs.Walks.{formRow}
 use Rattle.rewriting.proofs.Counting.{firstOf-rule}
 use Rattle.rewriting.proofs.Tables.{forms-row}
 use Rattle.rewriting.proofs.Written.{wrote-none, wrote-more, wrote-all}
+use Rattle.rewriting.proofs.Rules.{record-node}
 use Rattle.rewriting.proofs.walk.forms_of.Statement.{statement}
 use Rattle.rewriting.proofs.walk.forms_of.Tie as tie
 
@@ -59,7 +60,7 @@ loop-again c =
     let here = c .before .before .before .before .before .before .before .before .before .loop in
     let p = here .inv in
     let less = c .before .before .before .before .before .before .before .before .loop-test .taken in
-    let read = c .before .before .before .before .before .before .before .record-at .ensures .0 in
+    let read = record-node _ _ _ (c .before .before .before .before .before .before .before .record-at .ensures) in
     let more = firstOf-rule (a .list .now) (a .records) (here .k) less in
     let made = c .before .before .before .before .before .form-row .ensures in (
       search needs,

@@ -11,6 +11,7 @@ use Rattle.watcher.specs.Limits.{mostRecords}
 use Rattle.watcher.specs.Horizons.{Coded, Small}
 use Rattle.watcher.proofs.Horizons.{coded-none, coded-more, small-none, small-more}
 use Rattle.watcher.proofs.Horizons.{waits-forever, waits-minutes}
+use Rattle.rewriting.proofs.Rules.{record-node}
 use Rattle.watcher.proofs.horizon.horizon_in.Statement.{statement}
 use Rattle.watcher.proofs.horizon.horizon_in.Tie as tie
 
@@ -63,7 +64,7 @@ loop-again c =
       search needs,
       small-more (a .rule .now) (a .records) (loop .codes) (loop .k) _ (omega arith) (inv .2) (made .1),
       coded-more (a .rule .now) (a .records) (loop .codes) _ (loop .k) _ here (omega arith)
-          (c .before .before .record-at .ensures .0) (made .0) (inv .3),
+          (record-node _ _ _ (c .before .before .record-at .ensures)) (made .0) (inv .3),
     )
 
 sub-last : tie.Need-sub-last Inv-loop μ-loop

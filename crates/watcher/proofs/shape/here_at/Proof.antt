@@ -2,6 +2,7 @@
 -- Assumes nothing.
 use borrow.Author.Needs.{needs}
 use Rattle.watcher.proofs.RecordRows.{tells, placed}
+use Rattle.rewriting.proofs.Rules.{record-node, record-kind}
 use Rattle.watcher.proofs.shape.here_at.Statement.{statement}
 use Rattle.watcher.proofs.shape.here_at.Tie as tie
 
@@ -16,9 +17,9 @@ returns c =
     let q = c .before .before .before in
     let list = q .args .rule .now in
     let t =
-    tells list (q .args .plan) _ _ (q .pre .1) (c .before .record-at .ensures .0) (c .count-at .ensures .0)
+    tells list (q .args .plan) _ _ (q .pre .1) (record-node _ _ _ (c .before .record-at .ensures)) (c .count-at .ensures .0)
     (q .pre .2) in
-    (t, placed list (q .args .plan) (q .pre .0) _ _ (q .pre .1) t (c .before .record-at .ensures .1))
+    (t, placed list (q .args .plan) (q .pre .0) _ _ (q .pre .1) t (record-kind _ _ _ (c .before .record-at .ensures)))
 
 pub here-at-spec : {M : Type 1} → statement M
 here-at-spec = tie.close (tie.spec record-at-requires count-at-requires returns)
