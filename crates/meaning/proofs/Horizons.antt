@@ -90,15 +90,6 @@ pub by-none : (rule : List Node) (t b q : ℕ) → b < t → By rule t b q → �
 by-none rule t b q h d =
     let l : t ≤ b = ends-after (parameterHorizon rule (d .node) (d .shift)) t b (d .ends) in omega arith
 
--- a parameter's record and shift are the only ones, so its horizon is theirs
-pub by-ends : (rule : List Node) (t b k n : ℕ) → n < count (nodeAt rule k) → By rule t b (firstOf rule k + n)
-    → Ends (parameterHorizon rule k n) t b
-by-ends rule t b k n c d =
-    let p : d .node ≡ k = node-one rule (d .node) k (d .shift) n (d .less) c (d .here) in
-    let q : d .shift ≡ n = omega (arith, ap (firstOf rule) p) in
-    subst (λ x. Ends (parameterHorizon rule k x) t b) q
-    (subst (λ x. Ends (parameterHorizon rule x (d .shift)) t b) p (d .ends))
-
 module _ (rule : List Node) where
   pub length-horizons : (k : ℕ) → length (horizons rule k) ≡ k
   unfolding horizons

@@ -112,9 +112,6 @@ decFutureBefore rule k q = go (decLt q (firstOf rule k))
 
 -- a form depends only on next and until parameters of the first k records if it names no others, and only then
 module _ (rule : List Node) (k m : ℕ) (f : Form m) where
-  pub depends-future : ((j : ℕ) → names m f j ≡ true → FutureBefore rule k j) → DependsOn (FutureBefore rule k) m f
-  depends-future h = λ ρ ρ′ a. depends-names m f ρ ρ′ (λ j t. a j (h j t))
-
   pub names-future : DependsOn (FutureBefore rule k) m f → (j : ℕ) → names m f j ≡ true → FutureBefore rule k j
   names-future d j t = go (decFutureBefore rule k j)
     where
@@ -149,11 +146,6 @@ module _ (rule : List Node) (m : ℕ) (e : Entry) (k n : ℕ) where
 -- each row of that shape, by its record
 module _ (rule : List Node) (m : ℕ) (e : Entry) (rows : List (Form m)) (K : ℕ) (shaped : Shaped rule m e rows K)
     (k n : ℕ) (h : k < K) (c : n < count (nodeAt rule k)) where
-  -- a signal's is its constant
-  pub shaped-signal : (s : ℕ) → nodeAt rule k ≡ signal s → formIn m rows (firstOf rule k + n) ≡ constant m (holds e s)
-  unfolding RowShape
-  shaped-signal s q = subst (λ d. RowShape rule m e k n d (formIn m rows (firstOf rule k + n))) q (shaped k n h c)
-
   -- a next's or until's is itself
   pub shaped-future : Future (nodeAt rule k) → formIn m rows (firstOf rule k + n) ≡ parameter m (firstOf rule k + n)
   shaped-future u = future-row rule m e k n (nodeAt rule k) (formIn m rows (firstOf rule k + n)) u (shaped k n h c)

@@ -16,7 +16,8 @@ use Rattle.forms.proofs.Packing.{pack-words, pack-false}
 use Rattle.forms.proofs.Areas.{length-putRows, row-put, row-kept}
 use Rattle.rewriting.specs.Known.{wordsFor, formAt, areaOf, Tidy}
 use Rattle.rewriting.specs.Walks.{formRow}
-use Rattle.rewriting.proofs.Placed.{wordsFor-rows, area-by, tidy-rest}
+use Rattle.rewriting.proofs.Placed.{wordsFor-rows, tidy-rest, cleared-laid}
+use Rattle.rewriting.proofs.Written.{held-put, held-kept}
 
 -- no derived row is held before the first record
 pub held-none : (m : ℕ) (ws : List ℕ) (base : ℕ) → Holds m ws base 0 []
@@ -30,17 +31,9 @@ module _ (places m : ℕ) (past : List (Form m)) (remainder : Form m) (few : m �
       → c ≡ areaOf places m past remainder
   unfolding formRow
   laid-out a b c la unused rest p q =
-      area-by places m past remainder c long-c row-below (low places (omega arith) ∙ kept places few ∙ rest) scratch
+      cleared-laid places m past remainder b c (ap length p ∙ length-putRows a 0 m _ ∙ la) row-below (kept places few ∙ rest)
+      q
     where
-      long-b : length b ≡ wordsFor places
-      long-b = ap length p ∙ length-putRows a 0 m _ ∙ la
-
-      long-c : length c ≡ wordsFor places
-      long-c = ap length q ∙ length-putRows b (places + 1) (places + 1) _ ∙ long-b
-
-      low : (j : ℕ) → j < places + 1 → rowAt c j ≡ rowAt b j
-      low j h = ap (λ (x : List ℕ). rowAt x j) q ∙ row-kept b (places + 1) (places + 1) _ j (inl h)
-
       kept : (j : ℕ) → m ≤ j → rowAt b j ≡ rowAt a j
       kept j h = ap (λ (x : List ℕ). rowAt x j) p ∙ row-kept a 0 m _ j (inr (omega arith))
 
@@ -50,22 +43,13 @@ module _ (places m : ℕ) (past : List (Form m)) (remainder : Form m) (few : m �
           ∙ row-put a 0 m (formRow m past) j h (omega (arith, la, wordsFor-rows places))
           (pack-words m (formIn m past j) .long)
 
-      row-below : (j : ℕ) → j < places → rowAt c j ≡ pack m (formIn m past j)
+      row-below : (j : ℕ) → j < places → rowAt b j ≡ pack m (formIn m past j)
       row-below j h =
-          low j (omega arith)
-          ∙ ⊎-elim (put j)
+          ⊎-elim (put j)
           (λ l.
           kept j l ∙ unused j l h ∙ pack-false m
           ∙ ap (pack m) (sym (List·getD-eq-default past (constant m false) (omega arith))))
           (less-or-not j m)
-
-      scratch : (j : ℕ) → places < j → j < 2 * (places + 1) → rowAt c j ≡ replicate 64 0
-      scratch j h l =
-          let e : j ≡ places + 1 + (j - (places + 1)) = omega arith in
-          ap (λ (x : List ℕ). rowAt x j) q
-          ∙ ap (rowAt (putRows b (places + 1) (places + 1) (λ _. replicate 64 0))) e
-          ∙ row-put b (places + 1) (places + 1) (λ _. replicate 64 0) (j - (places + 1)) (omega arith)
-          (omega (arith, long-b, wordsFor-rows places)) refl
 
 module _ (places m : ℕ) (ws : List ℕ) (tidy : Tidy places m ws) (few : m ≤ places) where
   -- the first record: the remainder stays
@@ -83,15 +67,10 @@ module _ (places m : ℕ) (ws : List ℕ) (tidy : Tidy places m ws) (few : m ≤
     long-derived = ap length d ∙ length-putRows ws (places + 1) m _ ∙ tidy .long
 
     -- the derived rows stand in the scratch
-    in-scratch : (j : ℕ) → j < m → rowAt a (places + 1 + j) ≡ pack m (formIn m derived j)
-    unfolding formRow
-    in-scratch j h =
-        ap (λ (x : List ℕ). rowAt x (places + 1 + j)) d
-        ∙ row-put ws (places + 1) m (formRow m derived) j h
-        (omega (arith, tidy .long, wordsFor-rows places)) (pack-words m (formIn m derived j) .long)
-
     pub derived-held : Holds m a (places + 1) m derived
-    derived-held = record { long = long; row = in-scratch }
+    derived-held =
+        held-put m ws (places + 1) m derived (formRow m derived) a d long
+        (omega (arith, tidy .long, wordsFor-rows places)) (λ j h. refl)
 
     module _ (remainder : Form m) (b : List ℕ) (r : b ≡ putRows a places 1 (λ _. pack m remainder)) where
       long-put : length b ≡ wordsFor places
@@ -104,13 +83,7 @@ module _ (places m : ℕ) (ws : List ℕ) (tidy : Tidy places m ws) (few : m ≤
 
       pub derived-stay : Holds m b (places + 1) m derived
       derived-stay =
-          record {
-            long = long;
-            row =
-                λ j h.
-                ap (λ (x : List ℕ). rowAt x (places + 1 + j)) r
-                ∙ row-kept a places 1 _ (places + 1 + j) (inr (omega arith)) ∙ in-scratch j h;
-          }
+          held-kept m a (places + 1) m derived (λ _. pack m remainder) places 1 b r (inr (omega arith)) derived-held
 
       pub feed-laid : (past : List (Form m)) (c e : List ℕ) → length past ≡ m → c ≡ putRows b 0 m (formRow m past)
           → e ≡ putRows c (places + 1) (places + 1) (λ _. replicate 64 0) → e ≡ areaOf places m past remainder

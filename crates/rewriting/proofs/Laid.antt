@@ -1,6 +1,6 @@
 -- Writing the remainder and clearing the scratch lays the area out: at the end of a log, and at its start.
 -- Assumes nothing.
-use mathlib.Core.Path.{_≡_, refl, sym, ap, ap₂, _∙_, subst}
+use mathlib.Core.Path.{_≡_, refl, sym, ap, ap₂, _∙_}
 use mathlib.Core.Bool.{Bool}
 use mathlib.Core.Logic.{inl}
 use mathlib.Core.List.{List, []}
@@ -11,7 +11,7 @@ use Rattle.forms.specs.Form.{Form, constant}
 use Rattle.forms.specs.Words.{pack}
 use Rattle.forms.specs.Area.{rowAt, putRows, formIn}
 use Rattle.forms.proofs.Packing.{pack-words, pack-false}
-use Rattle.forms.proofs.Areas.{length-putRows, row-put, row-kept}
+use Rattle.forms.proofs.Areas.{length-putRows, row-kept}
 use Rattle.meaning.specs.Rule.{Node}
 use Rattle.meaning.specs.Rewriting.{formsOf}
 use Rattle.meaning.specs.Words.{start, valueIfLast}
@@ -21,15 +21,7 @@ use Rattle.rewriting.specs.declared.step.Moment.{Moment}
 use Rattle.rewriting.specs.Known.{wordsFor, knownIn, areaOf, Tidy}
 use Rattle.rewriting.specs.Plans.{ruleFor, readIn, closedWith}
 use Rattle.rewriting.proofs.Rules.{length-ruleIn}
-use Rattle.rewriting.proofs.Placed.{wordsFor-rows, area-by, tidy-past}
-
--- each of the places that one row is put at has it
-row-among : (ws : List ℕ) (base count place : ℕ) (row : List ℕ) → base ≤ place → place < base + count
-    → 64 * place + 64 ≤ length ws → length row ≡ 64 → rowAt (putRows ws base count (λ _. row)) place ≡ row
-row-among ws base count place row h l room e =
-    let q : base + (place - base) ≡ place = omega arith in
-    subst (λ x. rowAt (putRows ws base count (λ _. row)) x ≡ row) q
-    (row-put ws base count (λ _. row) (place - base) (omega arith) (omega arith) e)
+use Rattle.rewriting.proofs.Placed.{wordsFor-rows, tidy-past, row-among, cleared-laid}
 
 -- the remainder written, and zeros behind it
 pub record Rested (ws : List ℕ) (places : ℕ) (row written out : List ℕ) : Type 0 where
@@ -40,26 +32,12 @@ rest-laid : (places m : ℕ) (past : List (Form m)) (f : Form m) (ws row written
     → length ws ≡ wordsFor places → ((j : ℕ) → j < places → rowAt ws j ≡ pack m (formIn m past j)) → row ≡ pack m f
     → Rested ws places row written out → out ≡ areaOf places m past f
 rest-laid places m past f ws row written out l p e r =
-    area-by places m past f out (long ∙ same ∙ l)
-    (λ j h. kept j (omega arith) ∙ ap (λ a. rowAt a j) (r .rest) ∙ row-kept ws places 1 (λ _. row) j (inl h) ∙ p j h)
-    (kept places (omega arith) ∙ ap (λ a. rowAt a places) (r .rest)
+    cleared-laid places m past f written out (ap length (r .rest) ∙ length-putRows ws places 1 (λ _. row) ∙ l)
+    (λ j h. ap (λ a. rowAt a j) (r .rest) ∙ row-kept ws places 1 (λ _. row) j (inl h) ∙ p j h)
+    (ap (λ a. rowAt a places) (r .rest)
     ∙ row-among ws places 1 places row (omega arith) (omega arith) (omega (arith, wordsFor-rows places))
     (ap length e ∙ pack-words m f .long)
-    ∙ e)
-    (λ j h u.
-    ap (λ a. rowAt a j) (r .zeros)
-    ∙ row-among written (places + 1) (places + 1) j (replicate 64 0) (omega arith) (omega arith)
-    (omega (arith, wordsFor-rows places, same)) refl)
-  where
-    same : length written ≡ length ws
-    same = ap length (r .rest) ∙ length-putRows ws places 1 (λ _. row)
-
-    long : length out ≡ length written
-    long = ap length (r .zeros) ∙ length-putRows written (places + 1) (places + 1) (λ _. replicate 64 0)
-
-    kept : (j : ℕ) → j < places + 1 → rowAt out j ≡ rowAt written j
-    kept j h =
-        ap (λ a. rowAt a j) (r .zeros) ∙ row-kept written (places + 1) (places + 1) (λ _. replicate 64 0) j (inl h)
+    ∙ e) (r .zeros)
 
 -- the end: the past rows stay
 pub closed-laid : (plan : Plan) (rule : List Node) (last : Moment) (ws row written out : List ℕ) (b : Bool)

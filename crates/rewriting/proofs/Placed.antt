@@ -2,9 +2,9 @@
 -- Assumes nothing.
 use mathlib.Core.Path.{_≡_, refl, sym, ap, _∙_, subst}
 use mathlib.Core.Bool.{true, false}
-use mathlib.Core.Logic.{⊎-elim}
+use mathlib.Core.Logic.{inl, ⊎-elim}
 use mathlib.Core.List.{List}
-use Prim.Native.Nat.{ℕ, _+_, _*_, _/_, _%_, _^_, _≤_, _<_}
+use Prim.Native.Nat.{ℕ, _+_, _-_, _*_, _/_, _%_, _^_, _≤_, _<_}
 use native.Mathlib.Nat.{zero-add}
 use native.Mathlib.Omega.{arith}
 use lib.Dec.{lit<}
@@ -15,9 +15,9 @@ use Rattle.ground.proofs.Numbers.{zero-at}
 use Rattle.ground.proofs.Tabs.{length-tab, getD-tab, getD-tab-out, tab-is}
 use Rattle.forms.specs.Form.{Form, constant}
 use Rattle.forms.specs.Words.{pack, unpack, fits}
-use Rattle.forms.specs.Area.{rowAt, formIn, Holds}
+use Rattle.forms.specs.Area.{rowAt, putRows, formIn, Holds}
 use Rattle.forms.proofs.Packing.{pack-words, unpack-pack, pack-unpack, fits-pack, pack-false}
-use Rattle.forms.proofs.Areas.{row-words, rows-same}
+use Rattle.forms.proofs.Areas.{length-putRows, row-put, row-kept, row-words, rows-same}
 use Rattle.rewriting.specs.Known.{wordsFor, formAt, pastIn, rowFor, areaOf, Tidy}
 
 pub wordsFor-rows : (places : ℕ) → wordsFor places ≡ 64 * (2 * (places + 1))
@@ -125,25 +125,6 @@ module _ (places m : ℕ) (past : List (Form m)) (remainder : Form m) where
       (λ h. subst (λ x. x < 2 ^ 64) (sym (getD-tab-out (wordsFor places) _ k 0 h)) (lit< tt))
       (less-or-not k (wordsFor places))
 
-  -- it is tidy
-  pub tidy-areaOf : m ≤ places → length past ≤ m → Tidy places m (areaOf places m past remainder)
-  tidy-areaOf h l =
-      record {
-        long = length-areaOf;
-        small = small-areaOf;
-        past =
-            λ j u.
-            subst (λ r. fits m r ≡ true) (sym (row-areaOf j (omega arith) ∙ row-past j (omega arith)))
-            (fits-pack m (formIn m past j));
-        unused =
-            λ j u v.
-            row-areaOf j (omega arith) ∙ row-past j v
-            ∙ ap (pack m) (List·getD-eq-default past (constant m false) (omega arith)) ∙ sym (pack-false m);
-        remainder =
-            subst (λ r. fits m r ≡ true) (sym (row-areaOf places (omega arith) ∙ row-remainder))
-            (fits-pack m remainder);
-      }
-
 -- the rows of a tidy area are those of the forms read from it
 module _ (places m : ℕ) (ws : List ℕ) (tidy : Tidy places m ws) where
   whole : (j : ℕ) → fits m (rowAt ws j) ≡ true → rowAt ws j ≡ pack m (formAt m ws j)
@@ -169,3 +150,28 @@ module _ (places m : ℕ) (ws : List ℕ) (tidy : Tidy places m ws) where
         long = length-tab m (formAt m ws);
         row = λ j l. ap (rowAt ws) (zero-add j) ∙ tidy-past j (omega arith);
       }
+
+-- each of the places that one row is put at has it
+pub row-among : (ws : List ℕ) (base count place : ℕ) (row : List ℕ) → base ≤ place → place < base + count
+    → 64 * place + 64 ≤ length ws → length row ≡ 64 → rowAt (putRows ws base count (λ _. row)) place ≡ row
+row-among ws base count place row h l room e =
+    let q : base + (place - base) ≡ place = omega arith in
+    subst (λ x. rowAt (putRows ws base count (λ _. row)) x ≡ row) q
+    (row-put ws base count (λ _. row) (place - base) (omega arith) (omega arith) e)
+
+-- past rows and a remainder with the scratch cleared are the area that is laid out
+pub cleared-laid : (places m : ℕ) (past : List (Form m)) (f : Form m) (a out : List ℕ) → length a ≡ wordsFor places
+    → ((j : ℕ) → j < places → rowAt a j ≡ pack m (formIn m past j)) → rowAt a places ≡ pack m f
+    → out ≡ putRows a (places + 1) (places + 1) (λ _. replicate 64 0) → out ≡ areaOf places m past f
+cleared-laid places m past f a out long p r z =
+    area-by places m past f out
+    (ap length z ∙ length-putRows a (places + 1) (places + 1) (λ _. replicate 64 0) ∙ long)
+    (λ j h. kept j (omega arith) ∙ p j h) (kept places (omega arith) ∙ r)
+    (λ j h u.
+    ap (λ (x : List ℕ). rowAt x j) z
+    ∙ row-among a (places + 1) (places + 1) j (replicate 64 0) (omega arith) (omega arith)
+    (omega (arith, wordsFor-rows places, long)) refl)
+  where
+    kept : (j : ℕ) → j < places + 1 → rowAt out j ≡ rowAt a j
+    kept j h =
+        ap (λ (x : List ℕ). rowAt x j) z ∙ row-kept a (places + 1) (places + 1) (λ _. replicate 64 0) j (inl h)

@@ -140,16 +140,3 @@ pub walked-all : (list : List ℕ) (plan : Plan) (k first : ℕ) (ws area : List
     → area ≡ putRows ws base first g → area ≡ putRows ws base (plan .m) g
 walked-all list plan k first ws area base g sound begins h l e =
     e ∙ ap (λ x. putRows ws base x g) (parameters-done list (plan .records) k first begins h l ∙ sym (sound .own))
-
--- the derived rows are held where they were put
-pub derived-held : (list : List ℕ) (plan : Plan) (here : Moment) (near : Neighbour) (ws area : List ℕ)
-    → Sound list plan → length ws ≡ wordsFor (plan .places) → area ≡ derivedWith list plan here near ws
-    → Holds (plan .m) area (plan .places + 1) (plan .m) (derivedFor list plan here near ws)
-unfolding wordsFor
-derived-held list plan here near ws area sound long w =
-    held-put (plan .m) ws (plan .places + 1) (plan .m) (derivedFor list plan here near ws)
-    (formRow (plan .m) (derivedFor list plan here near ws)) area w
-    (length-derivedRows (plan .m) (ruleFor list plan) (pastIn (plan .m) ws) (entryFor here) (neighbourOf near)
-    (plan .records)
-    ∙ parameters-done list (plan .records) (plan .records) _ refl (le-refl _) (le-refl _) ∙ sym (sound .own))
-    (omega (arith, long, sound .few)) (λ j h. refl)

@@ -205,17 +205,6 @@ module _ (list rest : List ℕ) where
         byte-before k 5 h (omega arith),
       )
 
-  pub breaks-before : (k : ℕ) → k < recordsOf list → recordBreaks (list ++ rest) k ≡ recordBreaks list k
-  unfolding recordBreaks byteBreaks usedRight
-  breaks-before k h =
-      fold-cong _||_ false 8 (byteBreaks (list ++ rest) k) (byteBreaks list k) (λ i l.
-      rw (
-        byte-before k 0 h (omega arith),
-        byte-before k i h l,
-        byte-before k 4 h (omega arith),
-        byte-before k 5 h (omega arith),
-      ))
-
   pub ruleIn-before : (n : ℕ) → n ≤ recordsOf list → ruleIn (list ++ rest) n ≡ ruleIn list n
   unfolding ruleIn
   ruleIn-before n h = tab-cong n (nodeIn (list ++ rest)) (nodeIn list) (λ k l. node-before k (omega arith))
@@ -228,9 +217,6 @@ module _ (rule signals : List ℕ) (fine : Accepted rule signals) where
 
   pub accepted-some : 0 < length (ruleIn rule (recordsOf rule))
   accepted-some = rw length-ruleIn (length-fine rule (fine .long) .some)
-
-  pub accepted-most : length (ruleIn rule (recordsOf rule)) ≤ 16
-  accepted-most = rw length-ruleIn (length-fine rule (fine .long) .most)
 
   pub accepted-ordered : Ordered (ruleIn rule (recordsOf rule))
   accepted-ordered = ruleIn-ordered rule (recordsOf rule) accepted-laid

@@ -109,18 +109,8 @@ module _ (w : Watcher) (fine : startRefuses w ≡ false) where
         (subst (λ b. 1 ≤ b) (sym (byte-before (ruleBytes w) _ k 0 l (omega arith)))
         (record-fine (ruleBytes w) k (accepted-laid (ruleBytes w) (listBytesOf w) (lists-held .2) k l) .low))
 
-    pub held-ordered : Ordered (ruleOf w)
-    held-ordered = subst Ordered rule-held (accepted-ordered (ruleBytes w) (listBytesOf w) (lists-held .2))
-
     pub held-few : parametersOf w ≤ mostParameters
     unfolding parametersOf
     held-few =
         subst (λ rule. parameters rule ≤ mostParameters) rule-held
         (accepted-few (ruleBytes w) (listBytesOf w) (lists-held .2))
-
-    pub held-signals : (k s : ℕ) → nodeAt (ruleOf w) k ≡ signal s → s < w .signals
-    unfolding listBytesOf recordsOf
-    held-signals k s e =
-        let n = accepted-signals (ruleBytes w) (listBytesOf w) (lists-held .2) k s
-        (ap (λ rule. nodeAt rule k) rule-held ∙ e) in
-        omega (arith, n .0, length-take (recordBytes * w .signals) (w .list))
