@@ -31,8 +31,8 @@ module _ (places m : ℕ) (past : List (Form m)) (remainder : Form m) (few : m �
       → c ≡ areaOf places m past remainder
   unfolding formRow
   laid-out a b c la unused rest p q =
-      cleared-laid places m past remainder b c (ap length p ∙ length-putRows a 0 m _ ∙ la) row-below (kept places few ∙ rest)
-      q
+      cleared-laid places m past remainder b c (ap length p ∙ length-putRows a 0 m _ ∙ la) row-below
+      (kept places few ∙ rest) q
     where
       kept : (j : ℕ) → m ≤ j → rowAt b j ≡ rowAt a j
       kept j h = ap (λ (x : List ℕ). rowAt x j) p ∙ row-kept a 0 m _ j (inr (omega arith))
@@ -93,7 +93,8 @@ module _ (places m : ℕ) (ws : List ℕ) (tidy : Tidy places m ws) (few : m ≤
           rest : rowAt b places ≡ pack m remainder
           rest =
               ap (λ (x : List ℕ). rowAt x places) r
-              ∙ ap (rowAt (putRows a places 1 (λ _. pack m remainder))) (let q : places ≡ places + 0 = omega arith in q)
+              ∙ ap (rowAt (putRows a places 1 (λ _. pack m remainder)))
+              (let q : places ≡ places + 0 = omega arith in q)
               ∙ row-put a places 1 (λ _. pack m remainder) 0 (omega arith)
               (omega (arith, long-derived, wordsFor-rows places)) (pack-words m remainder .long)
 

@@ -44,7 +44,8 @@ module _ (list : List ℕ) (plan : Plan) (sound : Sound list plan) where
     first-done b c p q =
         first-laid (plan .places) (plan .m) ws tidy (sound .few)
         (pastRows (plan .m) (ruleFor list plan) [] (entryFor new) none (length (ruleFor list plan))) b c
-        (length-pastRows (plan .m) (ruleFor list plan) [] (entryFor new) none (length (ruleFor list plan)) ∙ plan-firsts)
+        (length-pastRows (plan .m) (ruleFor list plan) [] (entryFor new) none (length (ruleFor list plan))
+        ∙ plan-firsts)
         (subst
         (λ n. b ≡ putRows ws 0 (plan .m) (formRow (plan .m) (pastRows (plan .m) (ruleFor list plan) [] (entryFor new)
         none n)))
@@ -68,7 +69,8 @@ module _ (list : List ℕ) (plan : Plan) (sound : Sound list plan) where
         (length-pastRows m rule derived (entryFor new) (at (last .time)) (length rule) ∙ plan-firsts)
         (subst
         (λ n. c ≡ putRows b 0 m (formRow m (pastRows m rule derived (entryFor new) (at (last .time)) n)))
-        plan-whole (r derived (derived-stay places m ws tidy (sound .few) derived a long-derived made remainder b stored)))
+        plan-whole
+        (r derived (derived-stay places m ws tidy (sound .few) derived a long-derived made remainder b stored)))
         clear
       where
         m : ℕ

@@ -183,7 +183,8 @@ module _ (p : Phase) where
   last-closed v e = rw e
 
 -- what is known at the end is read with the last record
-known-now : (m : ℕ) (ws : List ℕ) (p : Phase) → knownNow m ws (stageOf p) ≡ knownIn mostParameters m ws (lastIn (stageOf p))
+known-now : (m : ℕ) (ws : List ℕ) (p : Phase)
+    → knownNow m ws (stageOf p) ≡ knownIn mostParameters m ws (lastIn (stageOf p))
 unfolding knownNow lastIn stageOf
 known-now m ws phase.Fresh = refl
 known-now m ws (phase.Running t s) = refl

@@ -1,5 +1,5 @@
--- The owner's second and third demand (document 00) over bytes: for every rule and signal list that start accepts, every
--- area of 1,664 words, and every run. Records that are refused count for nothing.
+-- The owner's second and third demand (document 00) over bytes: for every rule and signal list that start accepts,
+-- every area of 1,664 words, and every run. Records that are refused count for nothing.
 use mathlib.Core.Path.{_≡_}
 use mathlib.Core.Bool.{Bool, true}
 use mathlib.Core.List.{List, [], _∷_, _++_}

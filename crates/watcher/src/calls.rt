@@ -33,7 +33,8 @@ ghost use Rattle.watcher.specs.declared.state.Found.the-variants.{Fine};
 ghost use Rattle.watcher.specs.Limits.{areaWords};
 ghost use Rattle.watcher.specs.Lists.{listsRefusal};
 ghost use Rattle.watcher.specs.Calls.{zeroState, freshState, runningState};
-ghost use Rattle.watcher.specs.Calls.{startWith, startOf, feedRefusal, feedWith, feedOf, closeWith, closeOf, waitOf};
+ghost use Rattle.watcher.specs.Calls.{startWith, startOf, feedRefusal, feedWith, feedOf};
+ghost use Rattle.watcher.specs.Calls.{closeWith, closeOf, waitOf};
 ghost use Rattle.watcher.specs.Turns.{Passed, endedState};
 ghost use Rattle.watcher.specs.Numbers.{verdictFor, horizonFor};
 
@@ -110,7 +111,8 @@ fn closed_state(watcher: Watcher, verdict: Verdict) -> Watcher
 // Start with lists and an area that are not refused.
 fn begin(rule: &[u8], signals: &[u8], area: &mut [u64]) -> Started
     requires { ⌜ (listsRefusal (now rule) (now signals) ≡ Fine) × (length (now area) ≡ areaWords) ⌝ }
-    ensures { λ r. ⌜ (r, now (area .exit)) ≡ startWith Fine (now (rule .entry)) (now (signals .entry)) (now (area .entry)) ⌝ }
+    ensures { λ r. ⌜ (r, now (area .exit)) ≡ startWith Fine (now (rule .entry)) (now (signals .entry))
+        (now (area .entry)) ⌝ }
 {
     begin_area(rule, area);
     Started {
@@ -154,7 +156,8 @@ fn finish(watcher: Watcher, area: &mut [u64]) -> Ended
 impl Watcher {
     // Start a watcher on a rule, a signal list and a work area.
     pub fn start(rule: &[u8], signals: &[u8], area: &mut [u64]) -> Started
-        ensures { λ r. ⌜ (r, now (area .exit)) ≡ startOf (now (rule .entry)) (now (signals .entry)) (now (area .entry)) ⌝ }
+        ensures { λ r. ⌜ (r, now (area .exit)) ≡ startOf (now (rule .entry)) (now (signals .entry))
+            (now (area .entry)) ⌝ }
     {
         let found = start_refusal(rule, signals, area);
         match found {

@@ -15,7 +15,8 @@ use crate::state::Refusal;
 use crate::state::Watcher;
 ghost use mathlib.Core.Path.{_≡_};
 ghost use Rattle.watcher.specs.Lists.{firstRefusal, listsRefusal};
-ghost use Rattle.watcher.specs.Calls.{isClosed, isFresh, tooEarly, startRefusal, stateTests, feedRefusal, closeRefusal};
+ghost use Rattle.watcher.specs.Calls.{isClosed, isFresh, tooEarly};
+ghost use Rattle.watcher.specs.Calls.{startRefusal, stateTests, feedRefusal, closeRefusal};
 ghost use Rattle.watcher.specs.Numbers.{stageOf};
 
 // What is refused of the lists that start is given: refusals 1 to 6.

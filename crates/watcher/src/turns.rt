@@ -89,7 +89,8 @@ fn table_for(rule: &[u8], plan: Plan) -> [u64; Watcher::TABLE_WORDS]
 
 // The area at start.
 pub(crate) fn begin_area(rule: &[u8], area: &mut [u64])
-    requires { ⌜ Sound (now rule) (planIn (now rule)) × (recordsOf (now rule) ≤ mostRecords) × (length (now area) ≡ areaWords) ⌝ }
+    requires { ⌜ Sound (now rule) (planIn (now rule)) × (recordsOf (now rule) ≤ mostRecords)
+        × (length (now area) ≡ areaWords) ⌝ }
     ensures { λ _. ⌜ now (area .exit) ≡ begunOf (now (rule .entry)) ⌝ }
 {
     let plan = plan_for(rule, records_of(rule));
@@ -100,7 +101,8 @@ pub(crate) fn begin_area(rule: &[u8], area: &mut [u64])
 // The area after a record: the first leaves the remainder, a later one is fed.
 pub(crate) fn rewrite_area(watcher: Watcher, new: Moment, area: &mut [u64])
     requires { ⌜ Passed watcher (now area) ⌝ }
-    ensures { λ _. ⌜ (now (area .exit) ≡ rewrittenOf watcher new (now (area .entry))) × (parametersOf watcher ≤ mostParameters) ⌝ }
+    ensures { λ _. ⌜ (now (area .exit) ≡ rewrittenOf watcher new (now (area .entry)))
+        × (parametersOf watcher ≤ mostParameters) ⌝ }
 {
     let rule = watcher.rule;
     let plan = plan_for(&rule, watcher.records);
@@ -119,7 +121,8 @@ pub(crate) fn rewrite_area(watcher: Watcher, new: Moment, area: &mut [u64])
 // The area after closing, and the value were this the last record.
 pub(crate) fn close_area(watcher: Watcher, last: Moment, area: &mut [u64]) -> bool
     requires { ⌜ Passed watcher (now area) ⌝ }
-    ensures { λ r. ⌜ (r, now (area .exit)) ≡ closedWith (planOf watcher) (ruleOf watcher) (readIn (planOf watcher) (now (area .entry)) last) ⌝ }
+    ensures { λ r. ⌜ (r, now (area .exit)) ≡ closedWith (planOf watcher) (ruleOf watcher)
+        (readIn (planOf watcher) (now (area .entry)) last) ⌝ }
 {
     let rule = watcher.rule;
     let plan = plan_for(&rule, watcher.records);

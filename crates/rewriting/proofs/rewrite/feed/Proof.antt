@@ -35,9 +35,15 @@ same-length c = search needs
 returns : tie.Need-returns
 unfolding neighbourOf
 returns c =
-    let start = c .before .before .before .before .before .before .before .before .before .before .before .before .before .before .before .before .before .before .before .before .before .before .before .before in
-    feed-done _ _ (start .pre .0) _ (start .pre .2) _ _ _ _ _ _ _ _ (c .before .before .before .before .before .before .before .before .before .before .before .before .before .before .before .before .before .before .derive-all .ensures) (c .before .before .before .before .before .before .before .before .before .before .before .before .before .before .load .ensures)
-    (c .before .before .before .before .before .before .before .before .before .before .before .before .put-in .ensures) (c .before .before .before .before .before .before .before .before .before .before .store .ensures) (c .before .before .before .before .before .before .past-all .ensures) (c .before .before .clear .ensures)
+    let c₆ = c .before .before .before .before .before .before in
+    let c₁₀ = c₆ .before .before .before .before in
+    let c₁₂ = c₁₀ .before .before in
+    let c₁₄ = c₁₂ .before .before in
+    let c₁₈ = c₁₄ .before .before .before .before in
+    let c₂₄ = c₁₈ .before .before .before .before .before .before in
+    let start = c₂₄ in
+    feed-done _ _ (start .pre .0) _ (start .pre .2) _ _ _ _ _ _ _ _ (c₁₈ .derive-all .ensures) (c₁₄ .load .ensures)
+    (c₁₂ .put-in .ensures) (c₁₀ .store .ensures) (c₆ .past-all .ensures) (c .before .before .clear .ensures)
 
 pub feed-spec : {M : Type 1} → statement M
 feed-spec =

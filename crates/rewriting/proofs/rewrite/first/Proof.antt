@@ -22,8 +22,11 @@ same-length c = search needs
 returns : tie.Need-returns
 unfolding neighbourOf
 returns c =
-    let start = c .before .before .before .before .before .before .before .before .before .before .before .before in
-    first-done _ _ (start .pre .0) _ (start .pre .2) _ _ _ (c .before .before .before .before .before .before .past-all .ensures) (c .before .before .clear .ensures)
+    let c₆ = c .before .before .before .before .before .before in
+    let c₁₂ = c₆ .before .before .before .before .before .before in
+    let start = c₁₂ in
+    first-done _ _ (start .pre .0) _ (start .pre .2) _ _ _ (c₆ .past-all .ensures)
+    (c .before .before .clear .ensures)
 
 pub first-spec : {M : Type 1} → statement M
 first-spec = tie.close (tie.spec add-scratch past-all-requires clear-requires same-length returns)

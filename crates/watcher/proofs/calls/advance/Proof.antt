@@ -31,8 +31,12 @@ same-length c = search needs
 
 returns : tie.Need-returns
 returns c =
-    advance-done _ _ _ _ _ _ _ _ _ (c .before .before .before .before .before .before .rewrite-area .ensures .1) (c .before .before .before .before .before .before .before .before .before .before .time-of .ensures)
-    (c .before .before .before .before .before .before .before .before .signal-word .ensures) (c .before .before .before .before .before .before .rewrite-area .ensures .0) (c .before .before .load .ensures) (c .before .word-of .ensures)
+    let c₆ = c .before .before .before .before .before .before in
+    let c₈ = c₆ .before .before in
+    let c₁₀ = c₈ .before .before in
+    advance-done _ _ _ _ _ _ _ _ _ (c₆ .rewrite-area .ensures .1) (c₁₀ .time-of .ensures)
+    (c₈ .signal-word .ensures) (c₆ .rewrite-area .ensures .0) (c .before .before .load .ensures)
+    (c .before .word-of .ensures)
     (c .running-state .ensures)
 
 pub advance-spec : {M : Type 1} → statement M

@@ -22,7 +22,9 @@ same-length c = search needs
 
 returns : tie.Need-returns
 returns c =
-    finish-done _ _ _ _ _ _ _ (c .before .before .before .before .before .before .last-of .ensures) (c .before .before .before .before .close-area .ensures) (c .before .verdict-for .ensures)
+    let c₄ = c .before .before .before .before in
+    let c₆ = c₄ .before .before in
+    finish-done _ _ _ _ _ _ _ (c₆ .last-of .ensures) (c₄ .close-area .ensures) (c .before .verdict-for .ensures)
     (c .closed-state .ensures)
 
 pub finish-spec : {M : Type 1} → statement M

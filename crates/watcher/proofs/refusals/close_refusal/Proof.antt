@@ -20,7 +20,9 @@ is-fresh-requires c κs = search needs
 
 returns : tie.Need-returns
 returns c =
-    close-fresh _ _ _ (c .before .before .before .before .state-refusal .ensures) (c .before .before .enum-told .given .1) (sym (c .before .is-fresh .ensures) ∙ c .if1 .taken)
+    let c₄ = c .before .before .before .before in
+    close-fresh _ _ _ (c₄ .state-refusal .ensures) (c .before .before .enum-told .given .1)
+    (sym (c .before .is-fresh .ensures) ∙ c .if1 .taken)
 
 returns-2 : tie.Need-returns-2
 returns-2 c =
@@ -28,7 +30,9 @@ returns-2 c =
 
 returns-3 : tie.Need-returns-3
 returns-3 c =
-    close-fine _ _ _ (c .before .before .before .before .state-refusal .ensures) (c .before .before .enum-told .given .1) (sym (c .before .is-fresh .ensures) ∙ c .if1 .left)
+    let c₄ = c .before .before .before .before in
+    close-fine _ _ _ (c₄ .state-refusal .ensures) (c .before .before .enum-told .given .1)
+    (sym (c .before .is-fresh .ensures) ∙ c .if1 .left)
 
 pub close-refusal-spec : {M : Type 1} → statement M
 close-refusal-spec =

@@ -20,7 +20,9 @@ wrong-record-requires c κs = search needs
 
 returns : tie.Need-returns
 returns c =
-    feed-wrong _ _ _ (c .before .before .before .before .state-refusal .ensures) _ (c .before .before .enum-told .given .1) (sym (c .before .wrong-record .ensures) ∙ c .if1 .taken)
+    let c₄ = c .before .before .before .before in
+    feed-wrong _ _ _ (c₄ .state-refusal .ensures) _ (c .before .before .enum-told .given .1)
+    (sym (c .before .wrong-record .ensures) ∙ c .if1 .taken)
 
 time-of-requires : tie.Need-time-of-requires
 time-of-requires c κs = search needs
@@ -30,7 +32,12 @@ too-early-requires c κs = search needs
 
 returns-2 : tie.Need-returns-2
 returns-2 c =
-    feed-early _ _ _ (c .before .before .before .before .before .before .before .state-refusal .ensures) _ (c .before .before .before .before .before .enum-told .given .1) (sym (c .before .before .before .before .wrong-record .ensures) ∙ c .before .before .before .if1 .left) _
+    let c₃ = c .before .before .before in
+    let c₄ = c₃ .before in
+    let c₅ = c₄ .before in
+    let c₇ = c₅ .before .before in
+    feed-early _ _ _ (c₇ .state-refusal .ensures) _ (c₅ .enum-told .given .1)
+    (sym (c₄ .wrong-record .ensures) ∙ c₃ .if1 .left) _
     (c .before .before .time-of .ensures) (sym (c .before .too-early .ensures) ∙ c .if2 .taken)
 
 returns-3 : tie.Need-returns-3
@@ -39,7 +46,12 @@ returns-3 c =
 
 returns-4 : tie.Need-returns-4
 returns-4 c =
-    feed-fine _ _ _ (c .before .before .before .before .before .before .before .state-refusal .ensures) _ (c .before .before .before .before .before .enum-told .given .1) (sym (c .before .before .before .before .wrong-record .ensures) ∙ c .before .before .before .if1 .left) _
+    let c₃ = c .before .before .before in
+    let c₄ = c₃ .before in
+    let c₅ = c₄ .before in
+    let c₇ = c₅ .before .before in
+    feed-fine _ _ _ (c₇ .state-refusal .ensures) _ (c₅ .enum-told .given .1)
+    (sym (c₄ .wrong-record .ensures) ∙ c₃ .if1 .left) _
     (c .before .before .time-of .ensures) (sym (c .before .too-early .ensures) ∙ c .if2 .left)
 
 pub feed-refusal-spec : {M : Type 1} → statement M

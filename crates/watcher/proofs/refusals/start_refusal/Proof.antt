@@ -16,7 +16,8 @@ enum-told c = search needs
 
 returns : tie.Need-returns
 returns c =
-    start-area _ _ _ _ (c .before .before .before .check-lists .ensures) (c .before .enum-told .given .1) (c .if1 .taken)
+    let c₃ = c .before .before .before in
+    start-area _ _ _ _ (c₃ .check-lists .ensures) (c .before .enum-told .given .1) (c .if1 .taken)
 
 returns-2 : tie.Need-returns-2
 returns-2 c =
@@ -24,7 +25,8 @@ returns-2 c =
 
 returns-3 : tie.Need-returns-3
 returns-3 c =
-    start-fine _ _ _ _ (c .before .before .before .check-lists .ensures) (c .before .enum-told .given .1) (c .if1 .left)
+    let c₃ = c .before .before .before in
+    start-fine _ _ _ _ (c₃ .check-lists .ensures) (c .before .enum-told .given .1) (c .if1 .left)
 
 pub start-refusal-spec : {M : Type 1} → statement M
 start-refusal-spec =

@@ -21,11 +21,17 @@ is-closed-requires c κs = search needs
 
 returns-3 : tie.Need-returns-3
 returns-3 c =
-    state-closed _ _ (c .before .before .before .before .if1 .left) (sym (c .before .before .before .broken-state .ensures) ∙ c .before .before .if2 .left) (sym (c .before .is-closed .ensures) ∙ c .if3 .taken)
+    let c₃ = c .before .before .before in
+    let c₄ = c₃ .before in
+    state-closed _ _ (c₄ .if1 .left) (sym (c₃ .broken-state .ensures) ∙ c .before .before .if2 .left)
+    (sym (c .before .is-closed .ensures) ∙ c .if3 .taken)
 
 returns-4 : tie.Need-returns-4
 returns-4 c =
-    state-fine _ _ (c .before .before .before .before .if1 .left) (sym (c .before .before .before .broken-state .ensures) ∙ c .before .before .if2 .left) (sym (c .before .is-closed .ensures) ∙ c .if3 .left)
+    let c₃ = c .before .before .before in
+    let c₄ = c₃ .before in
+    state-fine _ _ (c₄ .if1 .left) (sym (c₃ .broken-state .ensures) ∙ c .before .before .if2 .left)
+    (sym (c .before .is-closed .ensures) ∙ c .if3 .left)
 
 pub state-refusal-spec : {M : Type 1} → statement M
 state-refusal-spec =

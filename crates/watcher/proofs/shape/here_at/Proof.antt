@@ -14,12 +14,17 @@ count-at-requires c κs = search needs
 
 returns : tie.Need-returns
 returns c =
-    let q = c .before .before .before in
+    let c₃ = c .before .before .before in
+    let q = c₃ in
     let list = q .args .rule .now in
     let t =
-    tells list (q .args .plan) _ _ (q .pre .1) (record-node _ _ _ (c .before .record-at .ensures)) (c .count-at .ensures .0)
-    (q .pre .2) in
-    (t, placed list (q .args .plan) (q .pre .0) _ _ (q .pre .1) t (record-kind _ _ _ (c .before .record-at .ensures)))
+    tells list (q .args .plan) _ _ (q .pre .1) (record-node _ _ _ (c .before .record-at .ensures))
+    (c .count-at .ensures .0)
+    (q .pre .2) in (
+      t,
+      placed list (q .args .plan) (q .pre .0) _ _ (q .pre .1) t
+          (record-kind _ _ _ (c .before .record-at .ensures)),
+    )
 
 pub here-at-spec : {M : Type 1} → statement M
 here-at-spec = tie.close (tie.spec record-at-requires count-at-requires returns)

@@ -24,10 +24,13 @@ slice-aggregate-begin c = search needs
 
 begin-requires : tie.Need-begin-requires
 begin-requires c κs =
-    let p = c .before .before .before .before .before .before .before .pre in (
-      sound-as _ _ _ (plan-listed _ _ _ (c .before .before .before .before .records-of .ensures) (c .before .before .before .plan-for .ensures)) (p .0),
+    let c₃ = c .before .before .before in
+    let c₄ = c₃ .before in
+    let c₇ = c₄ .before .before .before in
+    let p = c₇ .pre in (
+      sound-as _ _ _ (plan-listed _ _ _ (c₄ .records-of .ensures) (c₃ .plan-for .ensures)) (p .0),
       c .before .before .table-for .ensures,
-      plan-room _ (c .before .before .before .before .before .before .before .args .area .now) _ _ (c .before .before .before .plan-for .ensures) (p .2),
+      plan-room _ (c₇ .args .area .now) _ _ (c₃ .plan-for .ensures) (p .2),
     )
 
 same-length : tie.Need-same-length
@@ -35,7 +38,10 @@ same-length c = search needs
 
 returns : tie.Need-returns
 returns c =
-    begun-as _ _ _ (plan-listed _ _ _ (c .before .before .before .before .before .before .before .records-of .ensures) (c .before .before .before .before .before .before .plan-for .ensures)) (c .before .before .begin .ensures)
+    let c₆ = c .before .before .before .before .before .before in
+    let c₇ = c₆ .before in
+    begun-as _ _ _ (plan-listed _ _ _ (c₇ .records-of .ensures) (c₆ .plan-for .ensures))
+    (c .before .before .begin .ensures)
 
 pub begin-area-spec : {M : Type 1} → statement M
 begin-area-spec =

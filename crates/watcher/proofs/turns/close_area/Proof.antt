@@ -43,7 +43,8 @@ same-length c = search needs
 
 returns : tie.Need-returns
 returns c =
-    closed-as _ _ _ _ _ _ (c .before .before .before .before .before .before .before .before .plan-for .ensures) (c .before .before .close .ensures)
+    let c₈ = c .before .before .before .before .before .before .before .before in
+    closed-as _ _ _ _ _ _ (c₈ .plan-for .ensures) (c .before .before .close .ensures)
 
 pub close-area-spec : {M : Type 1} → statement M
 close-area-spec =

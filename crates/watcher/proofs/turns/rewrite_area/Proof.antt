@@ -34,11 +34,15 @@ slice-aggregate-first-2 c = search needs
 
 first-requires : tie.Need-first-requires
 first-requires c κs =
-    let p = c .before .before .before .before .before .before .before .before .before .before .before .pre in
-    let held = slice-aggregate-plan-for (c .before .before .before .before .before .before .before .before) in (
-      sound-as _ _ _ (c .before .before .before .before .before .before .before .plan-for .ensures) (passed-sound _ _ p held),
-      c .before .before .before .before .before .table-for .ensures,
-      tidy-as _ _ _ (c .before .before .before .before .before .before .before .plan-for .ensures) (passed-tidy _ _ p held),
+    let c₅ = c .before .before .before .before .before in
+    let c₇ = c₅ .before .before in
+    let c₈ = c₇ .before in
+    let c₁₁ = c₈ .before .before .before in
+    let p = c₁₁ .pre in
+    let held = slice-aggregate-plan-for (c₈) in (
+      sound-as _ _ _ (c₇ .plan-for .ensures) (passed-sound _ _ p held),
+      c₅ .table-for .ensures,
+      tidy-as _ _ _ (c₇ .plan-for .ensures) (passed-tidy _ _ p held),
     )
 
 enum-known-phase : tie.Need-enum-known-phase
@@ -52,11 +56,15 @@ slice-aggregate-feed-2 c = search needs
 
 feed-requires : tie.Need-feed-requires
 feed-requires c κs =
-    let p = c .before .before .before .before .before .before .before .before .before .before .before .before .pre in
-    let held = slice-aggregate-plan-for (c .before .before .before .before .before .before .before .before .before) in (
-      sound-as _ _ _ (c .before .before .before .before .before .before .before .before .plan-for .ensures) (passed-sound _ _ p held),
-      c .before .before .before .before .before .before .table-for .ensures,
-      tidy-as _ _ _ (c .before .before .before .before .before .before .before .before .plan-for .ensures) (passed-tidy _ _ p held),
+    let c₆ = c .before .before .before .before .before .before in
+    let c₈ = c₆ .before .before in
+    let c₉ = c₈ .before in
+    let c₁₂ = c₉ .before .before .before in
+    let p = c₁₂ .pre in
+    let held = slice-aggregate-plan-for (c₉) in (
+      sound-as _ _ _ (c₈ .plan-for .ensures) (passed-sound _ _ p held),
+      c₆ .table-for .ensures,
+      tidy-as _ _ _ (c₈ .plan-for .ensures) (passed-tidy _ _ p held),
     )
 
 enum-told-2 : tie.Need-enum-told-2
@@ -70,11 +78,15 @@ slice-aggregate-first-4 c = search needs
 
 first-requires-2 : tie.Need-first-requires-2
 first-requires-2 c κs =
-    let p = c .before .before .before .before .before .before .before .before .before .before .before .pre in
-    let held = slice-aggregate-plan-for (c .before .before .before .before .before .before .before .before) in (
-      sound-as _ _ _ (c .before .before .before .before .before .before .before .plan-for .ensures) (passed-sound _ _ p held),
-      c .before .before .before .before .before .table-for .ensures,
-      tidy-as _ _ _ (c .before .before .before .before .before .before .before .plan-for .ensures) (passed-tidy _ _ p held),
+    let c₅ = c .before .before .before .before .before in
+    let c₇ = c₅ .before .before in
+    let c₈ = c₇ .before in
+    let c₁₁ = c₈ .before .before .before in
+    let p = c₁₁ .pre in
+    let held = slice-aggregate-plan-for (c₈) in (
+      sound-as _ _ _ (c₇ .plan-for .ensures) (passed-sound _ _ p held),
+      c₅ .table-for .ensures,
+      tidy-as _ _ _ (c₇ .plan-for .ensures) (passed-tidy _ _ p held),
     )
 
 same-length : tie.Need-same-length
@@ -82,9 +94,13 @@ same-length c = search needs
 
 returns : tie.Need-returns
 returns c =
-    let p = c .before .before .before .before .before .before .before .before .before .before .before .before .before .before .pre in
-    let held = slice-aggregate-plan-for (c .before .before .before .before .before .before .before .before .before .before .before) in (
-      left-fresh _ _ _ _ _ (c .before .before .before .before .before .before .before .before .before .before .plan-for .ensures) (c .before .before .before .before .before .before .enum-told .given .1) (c .before .before .first .ensures),
+    let c₆ = c .before .before .before .before .before .before in
+    let c₁₀ = c₆ .before .before .before .before in
+    let c₁₁ = c₁₀ .before in
+    let c₁₄ = c₁₁ .before .before .before in
+    let p = c₁₄ .pre in
+    let held = slice-aggregate-plan-for (c₁₁) in (
+      left-fresh _ _ _ _ _ (c₁₀ .plan-for .ensures) (c₆ .enum-told .given .1) (c .before .before .first .ensures),
       passed-few _ _ p held,
     )
 
@@ -93,9 +109,13 @@ same-length-2 c = search needs
 
 returns-2 : tie.Need-returns-2
 returns-2 c =
-    let p = c .before .before .before .before .before .before .before .before .before .before .before .before .before .before .before .pre in
-    let held = slice-aggregate-plan-for (c .before .before .before .before .before .before .before .before .before .before .before .before) in (
-      fed-running _ _ _ _ _ (c .before .before .before .before .before .before .before .before .before .before .before .plan-for .ensures) _ (c .before .before .before .before .before .before .before .phase .given .1) (c .before .before .feed .ensures),
+    let c₇ = c .before .before .before .before .before .before .before in
+    let c₁₁ = c₇ .before .before .before .before in
+    let c₁₂ = c₁₁ .before in
+    let c₁₅ = c₁₂ .before .before .before in
+    let p = c₁₅ .pre in
+    let held = slice-aggregate-plan-for (c₁₂) in (
+      fed-running _ _ _ _ _ (c₁₁ .plan-for .ensures) _ (c₇ .phase .given .1) (c .before .before .feed .ensures),
       passed-few _ _ p held,
     )
 
@@ -104,9 +124,14 @@ same-length-3 c = search needs
 
 returns-3 : tie.Need-returns-3
 returns-3 c =
-    let p = c .before .before .before .before .before .before .before .before .before .before .before .before .before .before .pre in
-    let held = slice-aggregate-plan-for (c .before .before .before .before .before .before .before .before .before .before .before) in (
-      left-closed _ _ _ _ _ (c .before .before .before .before .before .before .before .before .before .before .plan-for .ensures) _ (c .before .before .before .before .before .before .enum-told2 .given .1) (c .before .before .first2 .ensures),
+    let c₆ = c .before .before .before .before .before .before in
+    let c₁₀ = c₆ .before .before .before .before in
+    let c₁₁ = c₁₀ .before in
+    let c₁₄ = c₁₁ .before .before .before in
+    let p = c₁₄ .pre in
+    let held = slice-aggregate-plan-for (c₁₁) in (
+      left-closed _ _ _ _ _ (c₁₀ .plan-for .ensures) _ (c₆ .enum-told2 .given .1)
+          (c .before .before .first2 .ensures),
       passed-few _ _ p held,
     )
 

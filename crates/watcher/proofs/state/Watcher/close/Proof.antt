@@ -17,7 +17,10 @@ enum-told c = search needs
 
 finish-requires : tie.Need-finish-requires
 finish-requires c κs =
-    close-passed _ _ (λ i. c .before .before .before .before .before .slice-known .given i .fits) _ (c .before .before .before .close-refusal .ensures) (c .before .enum-told .given .1)
+    let c₃ = c .before .before .before in
+    let c₅ = c₃ .before .before in
+    close-passed _ _ (λ i. c₅ .slice-known .given i .fits) _ (c₃ .close-refusal .ensures)
+    (c .before .enum-told .given .1)
 
 same-length : tie.Need-same-length
 same-length c = search needs
@@ -31,7 +34,10 @@ same-length-2 c = search needs
 
 returns-2 : tie.Need-returns-2
 returns-2 c =
-    close-fine-with _ _ _ (c .before .before .before .before .before .before .close-refusal .ensures) _ _ (c .before .before .before .before .enum-told .given .1) (c .before .before .finish .ensures)
+    let c₄ = c .before .before .before .before in
+    let c₆ = c₄ .before .before in
+    close-fine-with _ _ _ (c₆ .close-refusal .ensures) _ _ (c₄ .enum-told .given .1)
+    (c .before .before .finish .ensures)
 
 pub close-spec : {M : Type 1} → statement M
 close-spec =

@@ -17,7 +17,10 @@ enum-told c = search needs
 
 advance-requires : tie.Need-advance-requires
 advance-requires c κs =
-    feed-passed _ _ (λ i. c .before .before .before .before .before .slice-known .given i .fits) _ _ (c .before .before .before .would-refuse .ensures) (c .before .enum-told .given .1)
+    let c₃ = c .before .before .before in
+    let c₅ = c₃ .before .before in
+    feed-passed _ _ (λ i. c₅ .slice-known .given i .fits) _ _ (c₃ .would-refuse .ensures)
+    (c .before .enum-told .given .1)
 
 same-length : tie.Need-same-length
 same-length c = search needs
@@ -31,7 +34,10 @@ same-length-2 c = search needs
 
 returns-2 : tie.Need-returns-2
 returns-2 c =
-    feed-fine-with _ _ _ _ (c .before .before .before .before .before .before .would-refuse .ensures) _ _ (c .before .before .before .before .enum-told .given .1) (c .before .before .advance .ensures)
+    let c₄ = c .before .before .before .before in
+    let c₆ = c₄ .before .before in
+    feed-fine-with _ _ _ _ (c₆ .would-refuse .ensures) _ _ (c₄ .enum-told .given .1)
+    (c .before .before .advance .ensures)
 
 pub feed-spec : {M : Type 1} → statement M
 feed-spec =

@@ -18,11 +18,14 @@ slice-aggregate-horizon-in c = search needs
 
 horizon-in-requires : tie.Need-horizon-in-requires
 horizon-in-requires c κs =
-    wait-some _ _ (c .before .before .before .start-refuses .ensures) (c .before .before .if1 .left) (slice-aggregate-horizon-in c)
+    let c₃ = c .before .before .before in
+    wait-some _ _ (c₃ .start-refuses .ensures) (c .before .before .if1 .left) (slice-aggregate-horizon-in c)
 
 returns-2 : tie.Need-returns-2
 returns-2 c =
-    wait-held _ _ (c .before .before .before .before .start-refuses .ensures) (c .before .before .before .if1 .left) _ (c .horizon-in .ensures)
+    let c₃ = c .before .before .before in
+    let c₄ = c₃ .before in
+    wait-held _ _ (c₄ .start-refuses .ensures) (c₃ .if1 .left) _ (c .horizon-in .ensures)
 
 pub horizon-spec : {M : Type 1} → statement M
 horizon-spec =

@@ -27,14 +27,19 @@ same-length c = search needs
 
 returns : tie.Need-returns
 returns c =
-    start-refused-with _ _ _ _ (c .before .before .before .before .start-refusal .ensures) _ _ (c .before .before .found .given .1) (c .zero-state .ensures)
+    let c₄ = c .before .before .before .before in
+    start-refused-with _ _ _ _ (c₄ .start-refusal .ensures) _ _ (c .before .before .found .given .1)
+    (c .zero-state .ensures)
 
 same-length-2 : tie.Need-same-length-2
 same-length-2 c = search needs
 
 returns-2 : tie.Need-returns-2
 returns-2 c =
-    start-fine-with _ _ _ _ (c .before .before .before .before .before .before .start-refusal .ensures) _ _ (c .before .before .before .before .enum-told .given .1) (c .before .before .begin .ensures)
+    let c₄ = c .before .before .before .before in
+    let c₆ = c₄ .before .before in
+    start-fine-with _ _ _ _ (c₆ .start-refusal .ensures) _ _ (c₄ .enum-told .given .1)
+    (c .before .before .begin .ensures)
 
 pub start-spec : {M : Type 1} → statement M
 start-spec =
