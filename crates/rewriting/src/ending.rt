@@ -107,9 +107,10 @@ pub fn close(list: &[u8], plan: Plan, last: Moment, forms: &[u64], area: &mut [u
     requires { ⌜ Ready (now list) plan (now forms) (now area) ⌝ }
     ensures { λ r. ⌜ (r, now (area .exit)) ≡ closedWith plan (ruleFor (now (list .entry)) plan) (readIn plan (now (area .entry)) last) ⌝ }
 {
+    let scratch = plan.places + 1;
     let b = value_if_last(list, plan, last, forms, area);
     store(area, plan.places, constant(b));
-    clear(area, plan.places + 1, plan.places + 1);
+    clear(area, scratch, scratch);
     b
 }
 
