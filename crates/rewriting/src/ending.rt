@@ -80,7 +80,8 @@ fn end_values(
 // The setting of a rule's parameters, were this the last record.
 fn last_setting(list: &[u8], plan: Plan, last: Moment, forms: &[u64], area: &[u64]) -> usize
     requires { ⌜ Ready (now list) plan (now forms) (now area) ⌝ }
-    ensures { λ r. ⌜ Settled (plan .m) (lastRows (now (list .entry)) plan last (now (area .entry)) (plan .records)) r ⌝ }
+    ensures { λ r. ⌜ Settled (plan .m) (lastRows (now (list .entry)) plan last (now (area .entry)) (plan .records))
+        r ⌝ }
 {
     let mut setting: usize = 0;
     let mut first: usize = 0;
@@ -96,7 +97,8 @@ fn last_setting(list: &[u8], plan: Plan, last: Moment, forms: &[u64], area: &[u6
 // The value were this the last record.
 pub fn value_if_last(list: &[u8], plan: Plan, last: Moment, forms: &[u64], area: &[u64]) -> bool
     requires { ⌜ Ready (now list) plan (now forms) (now area) ⌝ }
-    ensures { λ r. ⌜ r ≡ valueIfLast (plan .m) (ruleFor (now (list .entry)) plan) (readIn plan (now (area .entry)) last) ⌝ }
+    ensures { λ r. ⌜ r ≡ valueIfLast (plan .m) (ruleFor (now (list .entry)) plan)
+        (readIn plan (now (area .entry)) last) ⌝ }
 {
     let setting = last_setting(list, plan, last, forms, area);
     value(load(area, plan.places), setting)
@@ -105,18 +107,22 @@ pub fn value_if_last(list: &[u8], plan: Plan, last: Moment, forms: &[u64], area:
 // Closing: the past rows stay, and the remainder is the constant.
 pub fn close(list: &[u8], plan: Plan, last: Moment, forms: &[u64], area: &mut [u64]) -> bool
     requires { ⌜ Ready (now list) plan (now forms) (now area) ⌝ }
-    ensures { λ r. ⌜ (r, now (area .exit)) ≡ closedWith plan (ruleFor (now (list .entry)) plan) (readIn plan (now (area .entry)) last) ⌝ }
+    ensures { λ r. ⌜ (r, now (area .exit)) ≡ closedWith plan (ruleFor (now (list .entry)) plan)
+        (readIn plan (now (area .entry)) last) ⌝ }
 {
+    let scratch = plan.places + 1;
     let b = value_if_last(list, plan, last, forms, area);
     store(area, plan.places, constant(b));
-    clear(area, plan.places + 1, plan.places + 1);
+    clear(area, scratch, scratch);
     b
 }
 
 // The area at start: past rows zero, the remainder is the rule's form.
 pub fn begin(list: &[u8], plan: Plan, forms: &[u64], area: &mut [u64])
-    requires { ⌜ Sound (now list) plan × HoldsForms (now list) plan (now forms) × (length (now area) ≡ wordsFor (plan .places)) ⌝ }
-    ensures { λ _. ⌜ now (area .exit) ≡ areaOf (plan .places) (plan .m) [] (start (plan .m) (ruleFor (now (list .entry)) plan)) ⌝ }
+    requires { ⌜ Sound (now list) plan × HoldsForms (now list) plan (now forms)
+        × (length (now area) ≡ wordsFor (plan .places)) ⌝ }
+    ensures { λ _. ⌜ now (area .exit) ≡ areaOf (plan .places) (plan .m) []
+        (start (plan .m) (ruleFor (now (list .entry)) plan)) ⌝ }
 {
     clear(area, 0, plan.places);
     store(

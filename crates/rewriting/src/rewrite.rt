@@ -27,9 +27,9 @@ pub fn feed(list: &[u8], plan: Plan, last: Moment, new: Moment, forms: &[u64], a
     requires { ⌜ Ready (now list) plan (now forms) (now area) ⌝ }
     ensures { λ _. ⌜ now (area .exit) ≡ fedWith (now (list .entry)) plan last new (now (area .entry)) ⌝ }
 {
-    let scratch = plan.places + 1;
+    let derived = plan.places + 1;
     derive_all(list, plan, last, Neighbour::At(new.time), forms, area);
-    let rest = put_in(load(area, plan.places), area, scratch, plan.m);
+    let rest = put_in(load(area, plan.places), area, derived, plan.m);
     store(area, plan.places, rest);
     past_all(
         list,
@@ -40,5 +40,5 @@ pub fn feed(list: &[u8], plan: Plan, last: Moment, new: Moment, forms: &[u64], a
         forms,
         area,
     );
-    clear(area, scratch, scratch);
+    clear(area, derived, derived);
 }

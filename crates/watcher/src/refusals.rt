@@ -84,11 +84,13 @@ fn state_refusal(watcher: Watcher, area: &[u64]) -> Found
     if area.len() != Watcher::WORDS {
         return Found::Refused(Refusal::AreaLength);
     }
-    if broken_state(watcher, area) {
+    let broken = broken_state(watcher, area);
+    let phase = watcher.phase;
+    let closed = is_closed(phase);
+    if broken {
         return Found::Refused(Refusal::BrokenState);
     }
-    let phase = watcher.phase;
-    if is_closed(phase) {
+    if closed {
         return Found::Refused(Refusal::AlreadyClosed);
     }
     Found::Fine

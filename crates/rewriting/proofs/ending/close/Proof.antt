@@ -5,6 +5,9 @@ use Rattle.rewriting.proofs.Laid.{closed-laid}
 use Rattle.rewriting.proofs.ending.close.Statement.{statement}
 use Rattle.rewriting.proofs.ending.close.Tie as tie
 
+add-scratch : tie.Need-add-scratch
+add-scratch c = search needs
+
 value-if-last-requires : tie.Need-value-if-last-requires
 value-if-last-requires c κs = search needs
 
@@ -14,12 +17,6 @@ constant-requires c κs = search needs
 store-requires : tie.Need-store-requires
 store-requires c κs = search needs
 
-add-clear : tie.Need-add-clear
-add-clear c = search needs
-
-add-clear-2 : tie.Need-add-clear-2
-add-clear-2 c = search needs
-
 clear-requires : tie.Need-clear-requires
 clear-requires c κs = search needs
 
@@ -28,9 +25,9 @@ same-length c = search needs
 
 returns : tie.Need-returns
 returns c =
-    let stored = c .before .before .before .before .before .before .before .before in
+    let stored = c .before .before .before .before .before .before in
     let valued = stored .before .before .before in
-    let entry = valued .before .before .before .before .before in
+    let entry = valued .before .before .before .before .before .before in
     closed-laid (entry .args .plan) _ (entry .args .last) _ _ _ _ _ (entry .pre .2) (valued .value-if-last .ensures)
     (stored .before .constant .ensures _)
     (record { rest = stored .store .ensures; zeros = c .before .before .clear .ensures })
@@ -39,11 +36,10 @@ pub close-spec : {M : Type 1} → statement M
 close-spec =
     tie.close
     (tie.spec
+    add-scratch
     value-if-last-requires
     constant-requires
     store-requires
-    add-clear
-    add-clear-2
     clear-requires
     same-length
     returns)

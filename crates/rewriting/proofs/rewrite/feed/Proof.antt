@@ -8,8 +8,8 @@ use Rattle.rewriting.proofs.Rewritten.{plan-few, feed-done}
 use Rattle.rewriting.proofs.rewrite.feed.Statement.{statement}
 use Rattle.rewriting.proofs.rewrite.feed.Tie as tie
 
-add-scratch : tie.Need-add-scratch
-add-scratch c = search needs
+add-derived : tie.Need-add-derived
+add-derived c = search needs
 
 derive-all-requires : tie.Need-derive-all-requires
 derive-all-requires c κs = c .before .before .before .before .before .pre
@@ -49,7 +49,7 @@ pub feed-spec : {M : Type 1} → statement M
 feed-spec =
     tie.close
     (tie.spec
-    add-scratch
+    add-derived
     derive-all-requires
     load-requires
     put-in-requires
