@@ -9,8 +9,9 @@ use Rattle.watcher.specs.declared.state.Started.{Started}
 use Rattle.watcher.specs.declared.state.Fed.{Fed}
 use Rattle.watcher.specs.declared.state.Ended.{Ended}
 use Rattle.watcher.specs.declared.state.Found.{Found}
+use Rattle.watcher.specs.declared.state.Refusal.{Refusal}
 use Rattle.watcher.specs.declared.state.Wait.{Wait}
-use Rattle.watcher.specs.Numbers.{horizonFor}
+use Rattle.watcher.specs.Numbers.{refusalNumber, horizonFor}
 use Rattle.watcher.specs.Calls.{startOf, feedRefusal, feedOf, closeOf, waitOf}
 use Rattle.watcher.proofs.Numbers.{horizon-one}
 
@@ -33,3 +34,7 @@ only-refusal w bytes ws = only-one (feedRefusal w bytes ws)
 
 pub only-wait : (w : Watcher) (a b : Wait) → horizonFor a ≡ waitOf w → horizonFor b ≡ waitOf w → a ≡ b
 only-wait w a b p q = horizon-one a b (p ∙ sym q)
+
+-- the number of a refusal
+pub only-number : (refusal : Refusal) (n n′ : ℕ) → n ≡ refusalNumber refusal → n′ ≡ refusalNumber refusal → n ≡ n′
+only-number refusal = only-one (refusalNumber refusal)

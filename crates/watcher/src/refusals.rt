@@ -1,4 +1,4 @@
-// Which refusal, if any, in document 01's order.
+// Which refusal, if any, in document 01's order, and its number.
 use crate::lists::has_twins;
 use crate::lists::many_parameters;
 use crate::lists::records_of;
@@ -17,7 +17,7 @@ ghost use mathlib.Core.Path.{_≡_};
 ghost use Rattle.watcher.specs.Lists.{firstRefusal, listsRefusal};
 ghost use Rattle.watcher.specs.Calls.{isClosed, isFresh, tooEarly};
 ghost use Rattle.watcher.specs.Calls.{startRefusal, stateTests, feedRefusal, closeRefusal};
-ghost use Rattle.watcher.specs.Numbers.{stageOf};
+ghost use Rattle.watcher.specs.Numbers.{stageOf, refusalNumber};
 
 // What is refused of the lists that start is given: refusals 1 to 6.
 pub fn check_lists(rule: &[u8], signals: &[u8]) -> Found
@@ -157,6 +157,28 @@ pub(crate) fn close_refusal(watcher: Watcher, area: &[u64]) -> Found
                 return Found::Refused(Refusal::NothingFed);
             }
             Found::Fine
+        }
+    }
+}
+
+impl Refusal {
+    // Document 01's number of a refusal.
+    pub fn number(self) -> usize
+        ensures { λ r. ⌜ r ≡ refusalNumber self ⌝ }
+    {
+        match self {
+            Refusal::RuleLength => 1,
+            Refusal::RuleRecord => 2,
+            Refusal::RuleTwins => 3,
+            Refusal::RuleParameters => 4,
+            Refusal::SignalList => 5,
+            Refusal::SignalMissing => 6,
+            Refusal::AreaLength => 7,
+            Refusal::LogRecord => 8,
+            Refusal::LogTime => 9,
+            Refusal::AlreadyClosed => 10,
+            Refusal::NothingFed => 11,
+            Refusal::BrokenState => 12,
         }
     }
 }

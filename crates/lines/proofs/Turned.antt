@@ -1,0 +1,45 @@
+-- A call, with its line put into the buffer, is the line of the call.
+-- Assumes nothing.
+use mathlib.Core.Path.{_≡_, refl, sym, ap, ap₂, _∙_}
+use mathlib.Core.Bool.{Bool, not}
+use mathlib.Core.List.{List}
+use Prim.Native.Nat.{ℕ}
+use Rattle.watcher.specs.declared.state.Watcher.{Watcher}
+use Rattle.watcher.specs.declared.state.Started.{Started}
+use Rattle.watcher.specs.declared.state.Fed.{Fed}
+use Rattle.watcher.specs.declared.state.Ended.{Ended}
+use Rattle.watcher.specs.Records.{timeOf}
+use Rattle.watcher.specs.State.{isRefused}
+use Rattle.watcher.specs.Calls.{startOf, feedOf, closeOf}
+use Rattle.lines.specs.declared.turns.Opened.{Opened}
+use Rattle.lines.specs.declared.turns.Turn.{Turn}
+use Rattle.lines.specs.Text.{foundLine, answerLine, endLine}
+use Rattle.lines.specs.Lines.{putText, turned, startedLine, startLine, fedLine, feedLine, endedLine, closeLine}
+use Rattle.lines.proofs.Texts.{text-placed}
+
+pub start-turned : (rule signals ws out : List ℕ) (s : Started) (ws′ : List ℕ) (ready : Bool) (n : ℕ) (out′ : List ℕ)
+    → (s, ws′) ≡ startOf rule signals ws → ready ≡ not (isRefused (s .found))
+    → (n, out′) ≡ putText (0, out) (foundLine (s .found))
+    → (record { next = s .next; ready = ready; length = n }, ws′, out′) ≡ startLine rule signals ws out
+unfolding startLine startedLine
+start-turned rule signals ws out s ws′ ready n out′ e r h =
+    ap₂ (λ b line. (record { next = s .next; ready = b; length = line .0 }, ws′, line .1)) r
+    (text-placed (n, out′) out (foundLine (s .found)) h)
+    ∙ ap (startedLine out) e
+
+pub feed-turned : (w : Watcher) (piece ws out : List ℕ) (f : Fed) (ws′ : List ℕ) (time n : ℕ) (out′ : List ℕ)
+    → (f, ws′) ≡ feedOf w piece ws → time ≡ timeOf piece → (n, out′) ≡ putText (0, out) (answerLine time (f .answer))
+    → (record { next = f .next; length = n }, ws′, out′) ≡ feedLine w piece ws out
+unfolding feedLine fedLine turned
+feed-turned w piece ws out f ws′ time n out′ e t h =
+    ap (turned (f .next) ws′)
+    (text-placed (n, out′) out (answerLine (timeOf piece) (f .answer))
+    (h ∙ ap (λ x. putText (0, out) (answerLine x (f .answer))) t))
+    ∙ ap (fedLine piece out) e
+
+pub close-turned : (w : Watcher) (ws out : List ℕ) (d : Ended) (ws′ : List ℕ) (n : ℕ) (out′ : List ℕ)
+    → (d, ws′) ≡ closeOf w ws → (n, out′) ≡ putText (0, out) (endLine (d .answer))
+    → (record { next = d .next; length = n }, ws′, out′) ≡ closeLine w ws out
+unfolding closeLine endedLine turned
+close-turned w ws out d ws′ n out′ e h =
+    ap (turned (d .next) ws′) (text-placed (n, out′) out (endLine (d .answer)) h) ∙ ap (endedLine out) e

@@ -1,0 +1,53 @@
+-- `text::put_ending` goes by the answer.
+-- Assumes nothing.
+use borrow.Author.Needs.{needs}
+use Rattle.watcher.specs.declared.state.End.the-variants.{Closed, Refused}
+use Rattle.lines.specs.Text.{endText}
+use Rattle.lines.proofs.Texts.{same-text}
+use Rattle.lines.proofs.text.put_ending.Statement.{statement}
+use Rattle.lines.proofs.text.put_ending.Tie as tie
+
+enum-known-end : tie.Need-enum-known-end
+enum-known-end c = search needs
+
+put-closed-requires : tie.Need-put-closed-requires
+put-closed-requires c κs = search needs
+
+enum-known-end-2 : tie.Need-enum-known-end-2
+enum-known-end-2 c = search needs
+
+put-refused-requires : tie.Need-put-refused-requires
+put-refused-requires c κs = search needs
+
+same-length : tie.Need-same-length
+same-length c = search needs
+
+returns : tie.Need-returns
+unfolding endText
+returns c =
+    let call = c .before .before in
+    let case = call .before .before .before in
+    same-text endText _ (Closed _) _ _ (case .end .given .1) (call .put-closed .ensures)
+
+same-length-2 : tie.Need-same-length-2
+same-length-2 c = search needs
+
+returns-2 : tie.Need-returns-2
+unfolding endText
+returns-2 c =
+    let call = c .before .before in
+    let case = call .before .before .before in
+    same-text endText _ (Refused _) _ _ (case .end2 .given .1) (call .put-refused .ensures)
+
+pub put-ending-spec : {M : Type 1} → statement M
+put-ending-spec =
+    tie.close
+    (tie.spec
+    enum-known-end
+    put-closed-requires
+    enum-known-end-2
+    put-refused-requires
+    same-length
+    returns
+    same-length-2
+    returns-2)

@@ -1,0 +1,72 @@
+-- The lines that the programs print (document 01, "The watching program"), as ASCII bytes.
+use mathlib.Core.Bool.{cond}
+use mathlib.Core.List.{List, [], _∷_, _++_}
+use Prim.Native.Nat.{ℕ, zero, suc, _+_, _/_, _%_}
+use lib.Dec.{ltb}
+use Rattle.watcher.specs.declared.state.Word.{Word}
+use Rattle.watcher.specs.declared.state.Word.the-variants as word
+use Rattle.watcher.specs.declared.state.Verdict.{Verdict}
+use Rattle.watcher.specs.declared.state.Refusal.{Refusal}
+use Rattle.watcher.specs.declared.state.Found.{Found}
+use Rattle.watcher.specs.declared.state.Found.the-variants as found
+use Rattle.watcher.specs.declared.state.Answer.{Answer}
+use Rattle.watcher.specs.declared.state.Answer.the-variants as answer
+use Rattle.watcher.specs.declared.state.End.{End}
+use Rattle.watcher.specs.declared.state.End.the-variants as end
+use Rattle.watcher.specs.Numbers.{verdictValue, refusalNumber}
+use Rattle.watcher.specs.Runs.{decided}
+
+-- the last digits of a number, as many as it has and no more than so many: the last stands last
+unfoldable pub digits : (most n : ℕ) → List ℕ
+digits zero n = []
+digits (suc k) n = cond (ltb n 10) ((48 + n) ∷ []) (digits k (n / 10) ++ ((48 + n % 10) ∷ []))
+
+-- a number in decimal digits; n + 1 of them are always enough
+unfoldable pub decimal : ℕ → List ℕ
+decimal n = digits (n + 1) n
+
+-- "kept", "broken", "pending"
+unfoldable pub wordText : Word → List ℕ
+wordText word.Kept = 107 ∷ 101 ∷ 112 ∷ 116 ∷ []
+wordText word.Broken = 98 ∷ 114 ∷ 111 ∷ 107 ∷ 101 ∷ 110 ∷ []
+wordText word.Pending = 112 ∷ 101 ∷ 110 ∷ 100 ∷ 105 ∷ 110 ∷ 103 ∷ []
+
+-- a verdict is worded as the word that is decided so
+unfoldable pub verdictText : Verdict → List ℕ
+verdictText v = wordText (decided (verdictValue v))
+
+-- a space, and the end of a line
+abbrev pub space : ℕ
+space = 32
+
+abbrev pub newline : ℕ
+newline = 10
+
+-- "refused", a space and the number
+unfoldable pub refusedLine : Refusal → List ℕ
+refusedLine r =
+    (114 ∷ 101 ∷ 102 ∷ 117 ∷ 115 ∷ 101 ∷ 100 ∷ space ∷ []) ++ (decimal (refusalNumber r) ++ (newline ∷ []))
+
+-- a refused start prints one such line, and an accepted one nothing
+unfoldable pub foundLine : Found → List ℕ
+foundLine found.Fine = []
+foundLine (found.Refused r) = refusedLine r
+
+-- a record's time, a space and the word; or its refusal
+unfoldable pub toldLine : (time : ℕ) → Word → List ℕ
+toldLine time w = decimal time ++ ((space ∷ []) ++ (wordText w ++ (newline ∷ [])))
+
+unfoldable pub answerLine : (time : ℕ) → Answer → List ℕ
+answerLine time (answer.Accepted report) = toldLine time (report .word)
+answerLine time (answer.Refused r) = refusedLine r
+
+-- "end", a space and the verdict; or the refusal
+unfoldable pub closedLine : Verdict → List ℕ
+closedLine v = verdictText v ++ (newline ∷ [])
+
+unfoldable pub endText : End → List ℕ
+endText (end.Closed v) = closedLine v
+endText (end.Refused r) = refusedLine r
+
+unfoldable pub endLine : End → List ℕ
+endLine e = (101 ∷ 110 ∷ 100 ∷ space ∷ []) ++ endText e

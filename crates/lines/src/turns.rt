@@ -1,0 +1,77 @@
+// Start, feed and close, each with the line that it prints.
+use crate::text::put_answer;
+use crate::text::put_end;
+use crate::text::put_found;
+use watcher::readings::time_of;
+use watcher::state::Found;
+use watcher::state::Watcher;
+ghost use mathlib.Core.Path.{_≡_};
+ghost use mathlib.Core.Bool.{not};
+ghost use Rattle.watcher.specs.State.{isRefused};
+ghost use Rattle.lines.specs.Lines.{startLine, feedLine, closeLine};
+
+// Bytes that no line has more of.
+pub const LINE_BYTES: usize = 32;
+
+// What start hands back: the state, whether it is ready, and how many bytes its line has.
+pub struct Opened {
+    pub next: Watcher,
+    pub ready: bool,
+    pub length: usize,
+}
+
+// What a turn hands back: the next state, and how many bytes its line has.
+pub struct Turn {
+    pub next: Watcher,
+    pub length: usize,
+}
+
+// Whether nothing is refused.
+fn is_fine(found: Found) -> bool
+    ensures { λ r. ⌜ r ≡ not (isRefused found) ⌝ }
+{
+    match found {
+        Found::Fine => true,
+        Found::Refused(_) => false,
+    }
+}
+
+// Start a watcher; the line is its refusal, if there is one.
+pub fn start_line(rule: &[u8], signals: &[u8], area: &mut [u64], out: &mut [u8]) -> Opened
+    ensures { λ r. ⌜ (r, now (area .exit), now (out .exit))
+        ≡ startLine (now (rule .entry)) (now (signals .entry)) (now (area .entry)) (now (out .entry)) ⌝ }
+{
+    let started = Watcher::start(rule, signals, area);
+    let found = started.found;
+    let next = started.next;
+    let length = put_found(out, 0, found);
+    Opened {
+        next,
+        ready: is_fine(found),
+        length,
+    }
+}
+
+// Feed a piece of the log; the line is its time and word, or its refusal.
+pub fn feed_line(watcher: Watcher, piece: &[u8], area: &mut [u64], out: &mut [u8]) -> Turn
+    ensures { λ r. ⌜ (r, now (area .exit), now (out .exit))
+        ≡ feedLine watcher (now (piece .entry)) (now (area .entry)) (now (out .entry)) ⌝ }
+{
+    let fed = watcher.feed(piece, area);
+    let answer = fed.answer;
+    let next = fed.next;
+    let length = put_answer(out, 0, time_of(piece), answer);
+    Turn { next, length }
+}
+
+// Close the log; the line is its verdict, or the refusal.
+pub fn close_line(watcher: Watcher, area: &mut [u64], out: &mut [u8]) -> Turn
+    ensures { λ r. ⌜ (r, now (area .exit), now (out .exit))
+        ≡ closeLine watcher (now (area .entry)) (now (out .entry)) ⌝ }
+{
+    let ended = watcher.close(area);
+    let answer = ended.answer;
+    let next = ended.next;
+    let length = put_end(out, 0, answer);
+    Turn { next, length }
+}
