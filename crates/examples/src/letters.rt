@@ -1,0 +1,60 @@
+// The watcher's answers as letters: K, B and P for words and verdicts, a hexadecimal digit for a refusal.
+use watcher::state::Answer;
+use watcher::state::End;
+use watcher::state::Refusal;
+use watcher::state::Verdict;
+use watcher::state::Word;
+
+// A refusal's number as a digit.
+pub(crate) fn refusal_letter(refusal: Refusal) -> u8 {
+    match refusal {
+        Refusal::RuleLength => b'1',
+        Refusal::RuleRecord => b'2',
+        Refusal::RuleTwins => b'3',
+        Refusal::RuleParameters => b'4',
+        Refusal::SignalList => b'5',
+        Refusal::SignalMissing => b'6',
+        Refusal::AreaLength => b'7',
+        Refusal::LogRecord => b'8',
+        Refusal::LogTime => b'9',
+        Refusal::AlreadyClosed => b'a',
+        Refusal::NothingFed => b'b',
+        Refusal::BrokenState => b'c',
+    }
+}
+
+// A word's letter.
+fn word_letter(word: Word) -> u8 {
+    match word {
+        Word::Kept => b'K',
+        Word::Broken => b'B',
+        Word::Pending => b'P',
+    }
+}
+
+// A verdict's letter.
+fn verdict_letter(verdict: Verdict) -> u8 {
+    match verdict {
+        Verdict::Kept => b'K',
+        Verdict::Broken => b'B',
+    }
+}
+
+// The letter of an answer to a record.
+pub(crate) fn answer_letter(answer: Answer) -> u8 {
+    match answer {
+        Answer::Accepted(report) => {
+            let word = report.word;
+            word_letter(word)
+        }
+        Answer::Refused(refusal) => refusal_letter(refusal),
+    }
+}
+
+// The letter of an answer to closing.
+pub(crate) fn end_letter(end: End) -> u8 {
+    match end {
+        End::Closed(verdict) => verdict_letter(verdict),
+        End::Refused(refusal) => refusal_letter(refusal),
+    }
+}

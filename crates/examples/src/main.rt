@@ -1,0 +1,17 @@
+// Runs the examples of document 01 and its listing through the watcher.
+mod bytes;
+mod letters;
+mod listed;
+mod listing;
+mod made;
+mod print;
+mod watch;
+
+use crate::listed::examples;
+use crate::listing::listing;
+
+fn main() {
+    let mut area = [0u64; 1664];
+    examples(&mut area);
+    listing(&mut area);
+}
