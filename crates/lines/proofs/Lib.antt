@@ -1,3 +1,4 @@
 pub mod Texts
 pub mod Turned
+pub mod RowLaws
 pub mod OnlyOne

@@ -1,4 +1,4 @@
 // The watching program: for each record of a log its time and the word, and at the end the verdict.
 fn main() {
-    console::watch();
+    console::watch(false);
 }
