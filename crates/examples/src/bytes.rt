@@ -20,7 +20,7 @@ pub(crate) fn at(bytes: &[u8], place: usize) -> u64
     wide(byte(bytes, place))
 }
 
-// Two bytes from an even start, the low one first; 0 from place 1,000 on.
+// Two bytes, the low one first; 0 from place 1,000 on.
 pub(crate) fn two(bytes: &[u8], place: usize) -> u64
     ensures { λ r. ⌜ r < 65536 ⌝ }
 {

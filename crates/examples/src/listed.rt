@@ -1,4 +1,4 @@
-// The fourteen examples of document 01, and its listing.
+// The fourteen examples of document 01.
 use crate::bytes::at;
 use crate::bytes::byte;
 use crate::bytes::first;
@@ -44,7 +44,7 @@ fn rule_nothing() -> [u8; 16] {
 }
 
 // Whether two texts are the same.
-pub(crate) fn same(a: &[u8], b: &[u8]) -> bool {
+fn same(a: &[u8], b: &[u8]) -> bool {
     if a.len() != b.len() {
         return false;
     }

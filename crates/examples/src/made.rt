@@ -2,7 +2,7 @@
 use crate::bytes::put;
 
 // Writes one byte of a record, if the record begins below 1,000.
-fn put_in(bytes: &mut [u8], start: usize, place: usize, new: u8) {
+pub(crate) fn put_in(bytes: &mut [u8], start: usize, place: usize, new: u8) {
     if 1000 <= start {
         return;
     }
@@ -38,6 +38,12 @@ pub(crate) fn put_interval(bytes: &mut [u8], start: usize, low: u8, high: u8) {
 pub(crate) fn put_signal(bytes: &mut [u8], start: usize, channel: u8, limit: u64) {
     put_in(bytes, start, 0, channel);
     put_two(bytes, start, 2, limit);
+}
+
+// Writes the time of a log record.
+pub(crate) fn put_time(bytes: &mut [u8], start: usize, time: u64) {
+    put_two(bytes, start, 0, time % 65536);
+    put_two(bytes, start, 2, time / 65536);
 }
 
 // Writes the wind of a log record, and its unit.

@@ -1,12 +1,22 @@
-// Runs the examples of document 01 and its listing through the watcher.
+// Runs the examples of document 01 and its listing through the watcher, and then cases by chance through the watcher
+// and through a second evaluator that shares nothing with it.
 mod bytes;
+mod compare;
+mod dice;
+mod judge;
 mod letters;
 mod listed;
 mod listing;
+mod lists;
 mod made;
 mod print;
+mod random;
+mod reach;
+mod reading;
+mod value;
 mod watch;
 
+use crate::compare::random_cases;
 use crate::listed::examples;
 use crate::listing::listing;
 
@@ -14,4 +24,5 @@ fn main() {
     let mut area = [0u64; 1664];
     examples(&mut area);
     listing(&mut area);
+    random_cases(5000, &mut area);
 }

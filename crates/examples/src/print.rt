@@ -12,7 +12,7 @@ pub(crate) fn number(n: u64) {
 }
 
 // Writes bytes in hexadecimal, two digits each.
-pub(crate) fn hex(bytes: &[u8]) {
+fn hex(bytes: &[u8]) {
     for place in 0..bytes.len() {
         io::print_hex(1, at(bytes, place), 2);
     }

@@ -7,6 +7,7 @@ use crate::letters::answer_letter;
 use crate::letters::end_letter;
 use crate::letters::refusal_letter;
 use watcher::state::Found;
+use watcher::state::Wait;
 use watcher::state::Watcher;
 
 // Feeds the log to a watcher that started, closes it, and answers how many letters it wrote.
@@ -44,5 +45,16 @@ pub(crate) fn run(
             1
         }
         Found::Fine => fed(watcher, log, said, area),
+    }
+}
+
+// The horizon of the watcher that starts with the lists; `none` if it has no limit.
+pub(crate) fn horizon_said(rule: &[u8], signals: &[u8], area: &mut [u64], none: u64) -> u64 {
+    let started = Watcher::start(rule, signals, area);
+    let watcher = started.next;
+    let wait = watcher.horizon();
+    match wait {
+        Wait::Forever => none,
+        Wait::Minutes(minutes) => minutes as u64,
     }
 }
