@@ -1,0 +1,115 @@
+-- No line has more bytes than the buffer that the program lends.
+-- Assumes nothing.
+use mathlib.Core.Path.{_≡_, refl, sym, ap, _∙_, subst}
+use mathlib.Core.Bool.{Bool, true, false, cond}
+use mathlib.Core.List.{List, [], _∷_, _++_}
+use Prim.Native.Nat.{ℕ, zero, suc, _+_, _*_, _/_, _%_, _^_, _≤_, _<_}
+use native.Mathlib.Nat.{pow-succ', lt-of-lt-of-le}
+use native.Mathlib.Omega.{arith}
+use lib.Dec.{ltb, lit<, lit≤}
+use lib.ListN.{length, getD, length-append}
+use borrow.Author.Tests.{ltb-false}
+use Rattle.ground.proofs.ByteLaws.{little-lt}
+use Rattle.watcher.specs.declared.state.Word.{Word}
+use Rattle.watcher.specs.declared.state.Word.the-variants as word
+use Rattle.watcher.specs.declared.state.Verdict.{Verdict}
+use Rattle.watcher.specs.declared.state.Refusal.{Refusal}
+use Rattle.watcher.specs.declared.state.Refusal.the-variants.{RuleLength, RuleRecord, RuleTwins, RuleParameters}
+use Rattle.watcher.specs.declared.state.Refusal.the-variants.{SignalList, SignalMissing, AreaLength, LogRecord}
+use Rattle.watcher.specs.declared.state.Refusal.the-variants.{LogTime, AlreadyClosed, NothingFed, BrokenState}
+use Rattle.watcher.specs.declared.state.Found.{Found}
+use Rattle.watcher.specs.declared.state.Found.the-variants as found
+use Rattle.watcher.specs.declared.state.Answer.{Answer}
+use Rattle.watcher.specs.declared.state.Answer.the-variants as answer
+use Rattle.watcher.specs.declared.state.End.{End}
+use Rattle.watcher.specs.declared.state.End.the-variants as end
+use Rattle.watcher.specs.Numbers.{verdictValue, refusalNumber}
+use Rattle.watcher.specs.Runs.{decided}
+use Rattle.watcher.specs.Records.{timeOf}
+use Rattle.lines.specs.Text.{digits, decimal, wordText, verdictText, refusedLine, foundLine}
+use Rattle.lines.specs.Text.{toldLine, answerLine, closedLine, endText, endLine}
+use Rattle.lines.specs.Listing.{lineBytes}
+
+-- a number below 10^(d+1) has at most d + 1 digits
+digits-short : (most d n : ℕ) → n < 10 ^ suc d → length (digits most n) ≤ suc d
+unfolding digits
+digits-short zero d n h = omega arith
+digits-short (suc k) d n h = go (ltb n 10) refl d h (λ e. digits-short k e (n / 10))
+  where
+    go : (b : Bool) → ltb n 10 ≡ b → (d : ℕ) → n < 10 ^ suc d
+        → ((e : ℕ) → n / 10 < 10 ^ suc e → length (digits k (n / 10)) ≤ suc e)
+        → length (cond b ((48 + n) ∷ []) (digits k (n / 10) ++ ((48 + n % 10) ∷ []))) ≤ suc d
+    go true e d h less = omega arith
+    go false e zero h less = let z : ⊥ = omega (arith, ltb-false n 10 e) in absurd z
+    go false e (suc d) h less =
+        let q : n / 10 < 10 ^ suc d = omega (arith, pow-succ' 10 (suc d)) in
+        omega (arith, length-append (digits k (n / 10)) ((48 + n % 10) ∷ []), less d q)
+
+decimal-short : (d n : ℕ) → n < 10 ^ suc d → length (decimal n) ≤ suc d
+unfolding decimal
+decimal-short d n h = digits-short (n + 1) d n h
+
+-- a word, a refusal's number, a time
+word-short : (w : Word) → length (wordText w) ≤ 7
+unfolding wordText
+word-short word.Kept = lit≤ tt
+word-short word.Broken = lit≤ tt
+word-short word.Pending = lit≤ tt
+
+number-short : (r : Refusal) → refusalNumber r < 100
+unfolding refusalNumber
+number-short RuleLength = lit< tt
+number-short RuleRecord = lit< tt
+number-short RuleTwins = lit< tt
+number-short RuleParameters = lit< tt
+number-short SignalList = lit< tt
+number-short SignalMissing = lit< tt
+number-short AreaLength = lit< tt
+number-short LogRecord = lit< tt
+number-short LogTime = lit< tt
+number-short AlreadyClosed = lit< tt
+number-short NothingFed = lit< tt
+number-short BrokenState = lit< tt
+
+time-short : (piece : List ℕ) → ((i : ℕ) → getD piece i 0 < 256) → length (decimal (timeOf piece)) ≤ 10
+unfolding timeOf
+time-short piece h = decimal-short 9 _ (lt-of-lt-of-le (little-lt piece 0 4 h) (lit≤ tt))
+
+-- a refusal's line
+refused-short : (r : Refusal) → length (refusedLine r) ≤ 11
+unfolding refusedLine
+refused-short r =
+    omega (
+      arith,
+      length-append (decimal (refusalNumber r)) (10 ∷ []),
+      decimal-short 1 (refusalNumber r) (number-short r),
+    )
+
+-- the lines
+pub found-fits : (f : Found) → length (foundLine f) ≤ lineBytes
+unfolding foundLine
+found-fits found.Fine = lit≤ tt
+found-fits (found.Refused r) = omega (arith, refused-short r)
+
+pub answer-fits : (piece : List ℕ) → ((i : ℕ) → getD piece i 0 < 256) → (a : Answer)
+    → length (answerLine (timeOf piece) a) ≤ lineBytes
+unfolding answerLine toldLine
+answer-fits piece h (answer.Accepted report) =
+    omega (
+      arith,
+      length-append (decimal (timeOf piece)) (32 ∷ (wordText (report .word) ++ (10 ∷ []))),
+      length-append (wordText (report .word)) (10 ∷ []),
+      time-short piece h,
+      word-short (report .word),
+    )
+answer-fits piece h (answer.Refused r) = omega (arith, refused-short r)
+
+end-short : (e : End) → length (endText e) ≤ 11
+unfolding endText closedLine verdictText
+end-short (end.Closed v) =
+    omega (arith, length-append (verdictText v) (10 ∷ []), word-short (decided (verdictValue v)))
+end-short (end.Refused r) = refused-short r
+
+pub end-fits : (e : End) → length (endLine e) ≤ lineBytes
+unfolding endLine
+end-fits e = omega (arith, end-short e)
