@@ -4,3 +4,4 @@ pub mod RowLaws
 pub mod OnlyOne
 pub mod Lengths
 pub mod Listed
+pub mod Decimals

@@ -9,6 +9,7 @@ ghost use mathlib.Core.Path.{_≡_};
 ghost use mathlib.Core.Bool.{not};
 ghost use Rattle.watcher.specs.State.{isRefused};
 ghost use Rattle.lines.specs.Lines.{startLine, feedLine, closeLine};
+ghost use Rattle.lines.specs.Listing.{lineBytes};
 
 // Bytes that no line has more of.
 pub const LINE_BYTES: usize = 32;
@@ -24,6 +25,13 @@ pub struct Opened {
 pub struct Turn {
     pub next: Watcher,
     pub length: usize,
+}
+
+// The constant above is the bound that the definitions name.
+pub fn line_bytes() -> usize
+    ensures { λ r. ⌜ r ≡ lineBytes ⌝ }
+{
+    LINE_BYTES
 }
 
 // Whether nothing is refused.
