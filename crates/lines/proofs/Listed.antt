@@ -18,7 +18,8 @@ use Rattle.watcher.specs.State.{isRefused}
 use Rattle.watcher.specs.Calls.{startOf, feedOf, closeOf}
 use Rattle.lines.specs.Text.{foundLine, answerLine, endLine}
 use Rattle.lines.specs.Lines.{placed, turned, startedLine, startLine, fedLine, feedLine, endedLine, closeLine}
-use Rattle.lines.specs.Listing.{piecesIn, pieces, logLines, listingFrom, listingOn, lineBytes}
+use Rattle.watcher.specs.Runs.{piecesIn, pieces}
+use Rattle.lines.specs.Listing.{logLines, listingFrom, listingOn, lineBytes}
 use Rattle.lines.specs.Listing.{printedLog, printed}
 use Rattle.lines.proofs.Lengths.{found-fits, answer-fits, end-fits}
 

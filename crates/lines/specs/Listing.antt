@@ -1,25 +1,17 @@
 -- What the watching program prints for a rule, a signal list and a log, all in bytes.
 use mathlib.Core.Bool.{Bool, true, false, cond}
 use mathlib.Core.List.{List, [], _∷_, _++_}
-use Prim.Native.Nat.{ℕ, zero, suc}
-use lib.ListN.{length, take, drop, replicate}
+use Prim.Native.Nat.{ℕ}
+use lib.ListN.{take, replicate}
 use Rattle.watcher.specs.declared.state.Watcher.{Watcher}
 use Rattle.watcher.specs.declared.state.Started.{Started}
-use Rattle.watcher.specs.Limits.{logBytes, areaWords}
+use Rattle.watcher.specs.Limits.{areaWords}
 use Rattle.watcher.specs.Records.{timeOf}
 use Rattle.watcher.specs.State.{isRefused}
 use Rattle.watcher.specs.Calls.{startOf, feedOf, closeOf}
+use Rattle.watcher.specs.Runs.{pieces}
 use Rattle.lines.specs.Text.{foundLine, answerLine, endLine}
 use Rattle.lines.specs.Lines.{startLine, feedLine, closeLine}
-
--- each 16 bytes of a log, and a short last piece
-unfoldable pub piecesIn : (most : ℕ) → List ℕ → List (List ℕ)
-piecesIn zero log = []
-piecesIn (suc n) [] = []
-piecesIn (suc n) (b ∷ log) = take logBytes (b ∷ log) ∷ piecesIn n (drop logBytes (b ∷ log))
-
-unfoldable pub pieces : List ℕ → List (List ℕ)
-pieces log = piecesIn (length log) log
 
 -- a line for each piece that is fed, and one for the end
 unfoldable pub logLines : Watcher → (ws : List ℕ) → List (List ℕ) → List ℕ

@@ -1,0 +1,64 @@
+-- The watcher call by call, with its state in lent bytes: the code, the bytes and the work area afterwards.
+use mathlib.Core.Bool.{Bool, true, false, not, cond}
+use mathlib.Core.List.{List}
+use Prim.Native.Nat.{ℕ}
+use lib.Dec.{eqb}
+use lib.ListN.{length}
+use Rattle.meaning.specs.Horizon.{never}
+use Rattle.watcher.specs.declared.state.Started.{Started}
+use Rattle.watcher.specs.declared.state.Answer.{Answer}
+use Rattle.watcher.specs.declared.state.Answer.the-variants as answer
+use Rattle.watcher.specs.declared.state.End.{End}
+use Rattle.watcher.specs.declared.state.End.the-variants as end
+use Rattle.watcher.specs.declared.state.Fed.{Fed}
+use Rattle.watcher.specs.declared.state.Ended.{Ended}
+use Rattle.watcher.specs.Calls.{startOf, feedOf, feedRefusal, closeOf, waitOf}
+use Rattle.port.specs.Codes.{stateLength, foundCode, answerCode, endCode, horizonCode}
+use Rattle.port.specs.Layout.{stateBytes, written, stateIn}
+
+-- bytes that are no state
+unfoldable pub wrongState : List ℕ → Bool
+wrongState bytes = not (eqb (length bytes) stateBytes)
+
+-- start: the bytes hold the state that start hands back, a refused start's too
+unfoldable pub startedBytes : Started × List ℕ → ℕ × List ℕ × List ℕ
+startedBytes s = (foundCode (s .0 .found), written (s .0 .next), s .1)
+
+unfoldable pub startBytes : (rule signals bytes ws : List ℕ) → ℕ × List ℕ × List ℕ
+startBytes rule signals bytes ws =
+    cond (wrongState bytes) (stateLength, bytes, ws) (startedBytes (startOf rule signals ws))
+
+-- would this record be refused
+unfoldable pub refusalBytes : (bytes piece ws : List ℕ) → ℕ
+refusalBytes bytes piece ws =
+    cond (wrongState bytes) stateLength (foundCode (feedRefusal (stateIn bytes) piece ws))
+
+-- feed: the bytes hold the next state if the record is accepted, and stay if not
+unfoldable pub keptUnless : Answer → (next bytes : List ℕ) → List ℕ
+keptUnless (answer.Accepted report) next bytes = next
+keptUnless (answer.Refused r) next bytes = bytes
+
+unfoldable pub fedBytes : Fed × List ℕ → List ℕ → ℕ × List ℕ × List ℕ
+fedBytes s bytes =
+    (answerCode (s .0 .answer), keptUnless (s .0 .answer) (written (s .0 .next)) bytes, s .1)
+
+unfoldable pub feedBytes : (bytes piece ws : List ℕ) → ℕ × List ℕ × List ℕ
+feedBytes bytes piece ws =
+    cond (wrongState bytes) (stateLength, bytes, ws) (fedBytes (feedOf (stateIn bytes) piece ws) bytes)
+
+-- close: the bytes hold the closed state, and stay if closing is refused
+unfoldable pub openUnless : End → (next bytes : List ℕ) → List ℕ
+openUnless (end.Closed v) next bytes = next
+openUnless (end.Refused r) next bytes = bytes
+
+unfoldable pub endedBytes : Ended × List ℕ → List ℕ → ℕ × List ℕ × List ℕ
+endedBytes s bytes =
+    (endCode (s .0 .answer), openUnless (s .0 .answer) (written (s .0 .next)) bytes, s .1)
+
+unfoldable pub closeBytes : (bytes ws : List ℕ) → ℕ × List ℕ × List ℕ
+closeBytes bytes ws =
+    cond (wrongState bytes) (stateLength, bytes, ws) (endedBytes (closeOf (stateIn bytes) ws) bytes)
+
+-- the horizon of the state that bytes hold; bytes that are no state have none
+unfoldable pub horizonBytes : List ℕ → ℕ
+horizonBytes bytes = horizonCode (cond (wrongState bytes) never (waitOf (stateIn bytes)))

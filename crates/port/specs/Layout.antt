@@ -1,0 +1,126 @@
+-- A state in 280 bytes: the rule, the signal list, how many records each has, the last record's time and signals, and
+-- the phase. Numbers have their lowest byte first.
+use mathlib.Core.Path.{_≡_}
+use mathlib.Core.Bool.{Bool, true, false, _&&_, cond}
+use mathlib.Core.List.{List}
+use Prim.Native.Nat.{ℕ, zero, suc, _+_, _-_, _/_, _%_, _^_, _<_}
+use lib.Dec.{leb, ltb}
+use lib.ListN.{length, getD}
+use Rattle.ground.specs.Fold.{tab}
+use Rattle.ground.specs.Bytes.{little}
+use Rattle.watcher.specs.declared.state.Watcher.{Watcher}
+use Rattle.watcher.specs.declared.state.Phase.{Phase}
+use Rattle.watcher.specs.declared.state.Phase.the-variants.{Fresh, Running, Closed}
+use Rattle.watcher.specs.declared.state.Verdict.the-variants.{Kept, Broken}
+use Rattle.watcher.specs.Limits.{listBytes}
+use Rattle.watcher.specs.Calls.{zeroState}
+
+-- the bytes of a state
+abbrev pub stateBytes : ℕ
+stateBytes = 280
+
+-- the places of the rule and of the signal list; of their numbers of records, in 8 bytes each
+abbrev pub rulePlace : ℕ
+rulePlace = 0
+
+abbrev pub listPlace : ℕ
+listPlace = 128
+
+abbrev pub recordsPlace : ℕ
+recordsPlace = 256
+
+abbrev pub signalsPlace : ℕ
+signalsPlace = 264
+
+-- the place of the last record's time, in 4 bytes, of its signals, in 2, of the phase and of the zero behind it
+abbrev pub timePlace : ℕ
+timePlace = 272
+
+abbrev pub wordPlace : ℕ
+wordPlace = 276
+
+abbrev pub phasePlace : ℕ
+phasePlace = 278
+
+abbrev pub zeroPlace : ℕ
+zeroPlace = 279
+
+-- byte k of a number
+unfoldable pub digit : ℕ → ℕ → ℕ
+digit n zero = n % 256
+digit n (suc k) = digit (n / 256) k
+
+-- the number of a phase
+unfoldable pub phaseNumber : Phase → ℕ
+phaseNumber Fresh = 0
+phaseNumber (Running time signals) = 1
+phaseNumber (Closed Kept) = 2
+phaseNumber (Closed Broken) = 3
+
+-- the time and the signals of a phase's last record; zero where it holds none
+unfoldable pub timeIn : Phase → ℕ
+timeIn Fresh = 0
+timeIn (Running time signals) = time
+timeIn (Closed v) = 0
+
+unfoldable pub signalsIn : Phase → ℕ
+signalsIn Fresh = 0
+signalsIn (Running time signals) = signals
+signalsIn (Closed v) = 0
+
+-- the byte of a state's numbers at a place behind its lists
+unfoldable pub numberByte : (records signals time word phase : ℕ) → ℕ → ℕ
+numberByte records signals time word phase i =
+    cond (ltb i signalsPlace) (digit records (i - recordsPlace))
+    (cond (ltb i timePlace) (digit signals (i - signalsPlace))
+    (cond (ltb i wordPlace) (digit time (i - timePlace))
+    (cond (ltb i phasePlace) (digit word (i - wordPlace)) (cond (ltb i zeroPlace) phase 0))))
+
+-- the byte of a state at a place
+unfoldable pub byteAt : Watcher → ℕ → ℕ
+byteAt w i =
+    cond (ltb i listPlace) (getD (w .rule) i 0)
+    (cond (ltb i recordsPlace) (getD (w .list) (i - listPlace) 0)
+    (numberByte (w .records) (w .signals) (timeIn (w .phase)) (signalsIn (w .phase)) (phaseNumber (w .phase)) i))
+
+-- bytes with a list put in from a place on
+unfoldable pub listPut : List ℕ → ℕ → List ℕ → List ℕ
+listPut bytes place list =
+    tab (length bytes)
+    (λ i. cond (leb place i && ltb i (place + listBytes)) (getD list (i - place) 0) (getD bytes i 0))
+
+-- a state in bytes
+unfoldable pub written : Watcher → List ℕ
+written w = tab stateBytes (byteAt w)
+
+-- the phase with a number up to 3, a time and signals
+unfoldable pub phaseWith : (number time signals : ℕ) → Phase
+phaseWith zero time signals = Fresh
+phaseWith (suc zero) time signals = Running time signals
+phaseWith (suc (suc zero)) time signals = Closed Kept
+phaseWith (suc (suc (suc n))) time signals = Closed Broken
+
+-- the list of records from a place on
+unfoldable pub listAt : List ℕ → ℕ → List ℕ
+listAt bytes place = tab listBytes (λ i. getD bytes (place + i) 0)
+
+-- the state that bytes hold; where there is no such phase, a fresh state of zeros
+unfoldable pub stateIn : List ℕ → Watcher
+stateIn bytes =
+    cond (ltb 3 (getD bytes phasePlace 0)) zeroState
+    (record {
+      rule = listAt bytes rulePlace;
+      records = little bytes recordsPlace 8;
+      list = listAt bytes listPlace;
+      signals = little bytes signalsPlace 8;
+      phase = phaseWith (getD bytes phasePlace 0) (little bytes timePlace 4) (little bytes wordPlace 2);
+    })
+
+-- what a machine's state has: lists of 128 bytes, and numbers within 64, 32 and 16 bits
+pub record Sized (w : Watcher) : Type 0 where
+  pub rule : length (w .rule) ≡ listBytes
+  pub list : length (w .list) ≡ listBytes
+  pub records : w .records < 2 ^ 64
+  pub signals : w .signals < 2 ^ 64
+  pub time : timeIn (w .phase) < 2 ^ 32
+  pub word : signalsIn (w .phase) < 2 ^ 16

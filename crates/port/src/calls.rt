@@ -1,0 +1,105 @@
+// The watcher call by call, with its state in lent bytes.
+use crate::codes::FOREVER;
+use crate::codes::STATE_LENGTH;
+use crate::codes::found_code;
+use crate::codes::horizon_code;
+use crate::codes::refusal_code;
+use crate::codes::verdict_code;
+use crate::codes::word_code;
+use crate::layout::STATE_BYTES;
+use crate::layout::read_state;
+use crate::layout::write_state;
+use watcher::state::Answer;
+use watcher::state::End;
+use watcher::state::Watcher;
+ghost use mathlib.Core.Path.{_≡_};
+ghost use Rattle.port.specs.Exports.{startBytes, refusalBytes, feedBytes, closeBytes, horizonBytes};
+
+// Start a watcher.
+#[no_mangle]
+pub extern "C" fn hunchcold_start(
+    rule: &[u8],
+    signals: &[u8],
+    bytes: &mut [u8],
+    area: &mut [u64],
+) -> u8
+    ensures { λ r. ⌜ (r, now (bytes .exit), now (area .exit)) ≡ startBytes (now (rule .entry)) (now (signals .entry))
+        (now (bytes .entry)) (now (area .entry)) ⌝ }
+{
+    if bytes.len() != STATE_BYTES {
+        return STATE_LENGTH;
+    }
+    let started = Watcher::start(rule, signals, area);
+    let found = started.found;
+    let next = started.next;
+    write_state(next, bytes);
+    found_code(found)
+}
+
+// Would this record be refused, and by which number.
+#[no_mangle]
+pub extern "C" fn hunchcold_would_refuse(bytes: &[u8], piece: &[u8], area: &[u64]) -> u8
+    ensures { λ r. ⌜ r ≡ refusalBytes (now (bytes .entry)) (now (piece .entry)) (now (area .entry)) ⌝ }
+{
+    if bytes.len() != STATE_BYTES {
+        return STATE_LENGTH;
+    }
+    let state = read_state(bytes);
+    found_code(state.would_refuse(piece, area))
+}
+
+// Feed one record.
+#[no_mangle]
+pub extern "C" fn hunchcold_feed(bytes: &mut [u8], piece: &[u8], area: &mut [u64]) -> u8
+    ensures { λ r. ⌜ (r, now (bytes .exit), now (area .exit)) ≡ feedBytes (now (bytes .entry)) (now (piece .entry))
+        (now (area .entry)) ⌝ }
+{
+    if bytes.len() != STATE_BYTES {
+        return STATE_LENGTH;
+    }
+    let state = read_state(bytes);
+    let fed = state.feed(piece, area);
+    let answer = fed.answer;
+    let next = fed.next;
+    match answer {
+        Answer::Accepted(report) => {
+            write_state(next, bytes);
+            let word = report.word;
+            word_code(word)
+        }
+        Answer::Refused(refusal) => refusal_code(refusal),
+    }
+}
+
+// Close the log.
+#[no_mangle]
+pub extern "C" fn hunchcold_close(bytes: &mut [u8], area: &mut [u64]) -> u8
+    ensures { λ r. ⌜ (r, now (bytes .exit), now (area .exit)) ≡ closeBytes (now (bytes .entry)) (now (area .entry)) ⌝ }
+{
+    if bytes.len() != STATE_BYTES {
+        return STATE_LENGTH;
+    }
+    let state = read_state(bytes);
+    let ended = state.close(area);
+    let end = ended.answer;
+    let next = ended.next;
+    match end {
+        End::Closed(verdict) => {
+            write_state(next, bytes);
+            verdict_code(verdict)
+        }
+        End::Refused(refusal) => refusal_code(refusal),
+    }
+}
+
+// How long the rule can stay open, in minutes.
+#[no_mangle]
+pub extern "C" fn hunchcold_horizon(bytes: &[u8]) -> u64
+    ensures { λ r. ⌜ r ≡ horizonBytes (now (bytes .entry)) ⌝ }
+{
+    if bytes.len() != STATE_BYTES {
+        return FOREVER;
+    }
+    let state = read_state(bytes);
+    horizon_code(state.horizon())
+}

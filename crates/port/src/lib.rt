@@ -1,0 +1,5 @@
+// The watcher for C and Rust: exports over numbers and lent lists.
+pub mod calls;
+mod codes;
+mod layout;
+pub mod whole;
