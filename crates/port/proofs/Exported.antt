@@ -23,8 +23,8 @@ use Rattle.watcher.specs.Numbers.{refusalNumber, horizonFor}
 use Rattle.watcher.specs.Calls.{startOf, feedOf, feedRefusal, closeOf, waitOf}
 use Rattle.port.specs.Codes.{stateLength, wordCode, verdictCode, foundCode, answerCode, endCode, horizonCode}
 use Rattle.port.specs.Layout.{stateBytes, written, stateIn}
-use Rattle.port.specs.Exports.{wrongState, startedBytes, startBytes, refusalBytes, keptUnless, fedBytes, feedBytes}
-use Rattle.port.specs.Exports.{openUnless, endedBytes, closeBytes, horizonBytes}
+use Rattle.port.specs.Exports.{wrongState, startedBytes, startBytes, refusalBytes, keptUnless, fedBytes}
+use Rattle.port.specs.Exports.{feedBytes, openUnless, endedBytes, closeBytes, horizonBytes}
 
 -- bytes of another length are no state
 long-not : (bytes : List ℕ) → (length bytes ≡ stateBytes → ⊥) → wrongState bytes ≡ true
@@ -97,7 +97,8 @@ feed-refused bytes piece ws ws′ w s r n h e f g m =
     feed-right bytes piece ws ws′ bytes w s n h e f (m ∙ ap answerCode (sym g))
     (ap (λ x. keptUnless x (written (s .next)) bytes) (sym g))
 
-pub close-wrong : (bytes ws : List ℕ) → (length bytes ≡ stateBytes → ⊥) → (stateLength, bytes, ws) ≡ closeBytes bytes ws
+pub close-wrong : (bytes ws : List ℕ) → (length bytes ≡ stateBytes → ⊥)
+    → (stateLength, bytes, ws) ≡ closeBytes bytes ws
 unfolding closeBytes
 close-wrong bytes ws h = wrong-one bytes _ _ h
 

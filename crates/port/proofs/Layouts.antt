@@ -60,14 +60,16 @@ module _ (records signals time word phase i : ℕ) where
   number-zero a =
       rw (le-ltb i signalsPlace (omega arith))
       (rw (le-ltb i timePlace (omega arith))
-      (rw (le-ltb i wordPlace (omega arith)) (rw (le-ltb i phasePlace (omega arith)) (rw (le-ltb i zeroPlace a) refl))))
+      (rw (le-ltb i wordPlace (omega arith))
+      (rw (le-ltb i phasePlace (omega arith)) (rw (le-ltb i zeroPlace a) refl))))
 
 -- a state's bytes: those of its rule, of its list, and of its numbers
 pub byte-rule : (w : Watcher) (i : ℕ) → i < listPlace → getD (w .rule) i 0 ≡ byteAt w i
 unfolding byteAt
 byte-rule w i h = rw (lt-ltb i listPlace h) refl
 
-pub byte-list : (w : Watcher) (i : ℕ) → listPlace ≤ i → i < recordsPlace → getD (w .list) (i - listPlace) 0 ≡ byteAt w i
+pub byte-list : (w : Watcher) (i : ℕ) → listPlace ≤ i → i < recordsPlace
+    → getD (w .list) (i - listPlace) 0 ≡ byteAt w i
 unfolding byteAt
 byte-list w i a h = rw (le-ltb i listPlace a) (rw (lt-ltb i recordsPlace h) refl)
 

@@ -27,8 +27,8 @@ returns-2 : tie.Need-returns-2
 returns-2 c =
     let write = c .before .before .before in
     let start = write .before .before .before .before .before in
-    start-right _ _ _ _ _ _ _ _ (start .before .before .if1 .left) (start .start .ensures) (write .write-state .ensures)
-    (c .found-code .ensures)
+    start-right _ _ _ _ _ _ _ _ (start .before .before .if1 .left) (start .start .ensures)
+    (write .write-state .ensures) (c .found-code .ensures)
 
 pub hunchcold-start-spec : {M : Type 1} → statement M
 hunchcold-start-spec =

@@ -20,8 +20,8 @@ found-code-requires c κs = search needs
 returns-2 : tie.Need-returns-2
 returns-2 c =
     let c₃ = c .before .before .before in
-    refusal-right _ _ _ _ _ _ (c₃ .if1 .left) (c .before .before .read-state .ensures) (c .before .would-refuse .ensures)
-    (c .found-code .ensures)
+    refusal-right _ _ _ _ _ _ (c₃ .if1 .left) (c .before .before .read-state .ensures)
+    (c .before .would-refuse .ensures) (c .found-code .ensures)
 
 pub hunchcold-would-refuse-spec : {M : Type 1} → statement M
 hunchcold-would-refuse-spec =

@@ -11,7 +11,8 @@ use Rattle.port.proofs.layout.eight.Statement.{statement}
 use Rattle.port.proofs.layout.eight.Tie as tie
 
 -- four bytes fit
-four-lt : (c : tie.After-four2) (at : ℕ) → little (c .before .before .before .before .args .bytes .now) at 4 < 4294967296
+four-lt : (c : tie.After-four2) (at : ℕ)
+    → little (c .before .before .before .before .args .bytes .now) at 4 < 4294967296
 four-lt c at =
     little-lt (c .before .before .before .before .args .bytes .now) at 4
     (λ i. c .before .before .before .shared-slice-known .given i .fits)

@@ -22,7 +22,13 @@ abbrev μ-loop : tie.MeasureT-loop
 
 loop-holds : tie.Need-loop-holds Inv-loop μ-loop
 loop-holds c =
-    (search needs, search needs, search needs, search needs, λ j. put-none (c .args .bytes .now) (c .args .list .now) (c .args .place) j)
+    let start = c .args in (
+      search needs,
+      search needs,
+      search needs,
+      search needs,
+      put-none (start .bytes .now) (start .list .now) (start .place),
+    )
 
 shared-slice-read-bytes : tie.Need-shared-slice-read-bytes Inv-loop μ-loop
 shared-slice-read-bytes c = search needs

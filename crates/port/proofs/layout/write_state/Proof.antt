@@ -76,8 +76,8 @@ loop-again c =
       search needs,
       search needs,
       search needs,
-      filled-more (c .before .before .loop .bytes) (c .before .before .loop .i) _ 0 (byteAt state) (omega (arith, p .2))
-          made (p .3),
+      filled-more (c .before .before .loop .bytes) (c .before .before .loop .i) _ 0 (byteAt state)
+          (omega (arith, p .2)) made (p .3),
     )
 
 same-length : tie.Need-same-length Inv-loop μ-loop
