@@ -1,20 +1,20 @@
 // Cases by chance, through the watcher and the second evaluator, and what is counted of them.
-use crate::bytes::byte;
-use crate::bytes::first;
-use crate::judge::agree;
-use crate::judge::is_decided;
-use crate::judge::wanted;
-use crate::lists::lists_refusal;
+use crate::agree::agree;
+use crate::agree::is_decided;
 use crate::print::difference;
 use crate::print::number;
 use crate::print::text;
-use crate::random::random_log;
-use crate::random::random_rule;
-use crate::random::random_signals;
-use crate::reach::NEVER;
-use crate::reach::horizon;
 use crate::watch::horizon_said;
 use crate::watch::run;
+use chance::random::random_log;
+use chance::random::random_rule;
+use chance::random::random_signals;
+use judge::bytes::byte;
+use judge::bytes::first;
+use judge::letters::wanted;
+use judge::lists::lists_refusal;
+use judge::reach::NEVER;
+use judge::reach::horizon;
 
 // Counts one more at a place of the tally.
 fn count(tally: &mut [u64], place: usize) {

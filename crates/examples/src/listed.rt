@@ -1,17 +1,17 @@
 // The fourteen examples of document 01.
-use crate::bytes::at;
-use crate::bytes::byte;
-use crate::bytes::first;
-use crate::bytes::pieces;
-use crate::bytes::put;
-use crate::made::put_interval;
-use crate::made::put_rule;
-use crate::made::put_signal;
-use crate::made::put_wind;
 use crate::print::difference;
 use crate::print::number;
 use crate::print::text;
 use crate::watch::run;
+use chance::made::put_interval;
+use chance::made::put_rule;
+use chance::made::put_signal;
+use chance::made::put_wind;
+use judge::bytes::at;
+use judge::bytes::byte;
+use judge::bytes::first;
+use judge::bytes::pieces;
+use judge::bytes::put;
 
 // Rule A: signal 0 until signal 1, with the interval given.
 pub(crate) fn rule_a(low: u8, high: u8) -> [u8; 24] {

@@ -1,14 +1,14 @@
 // The listing of document 01, as calls: the lines that the watching program prints.
-use crate::bytes::at;
-use crate::bytes::four;
-use crate::bytes::part;
-use crate::bytes::put;
 use crate::listed::rule_a;
-use crate::made::put_signal;
-use crate::made::put_wind;
 use crate::print::number;
 use crate::print::text;
 use crate::watch::run;
+use chance::made::put_signal;
+use chance::made::put_wind;
+use judge::bytes::at;
+use judge::bytes::four;
+use judge::bytes::part;
+use judge::bytes::put;
 
 // Writes the word or verdict of a letter; any other letter as it stands.
 fn word(letters: &[u8], place: usize) {

@@ -1,19 +1,11 @@
 // Runs the examples of document 01 and its listing through the watcher, and then cases by chance through the watcher
-// and through a second evaluator that shares nothing with it.
-mod bytes;
+// and through the second evaluator, the crate judge.
+mod agree;
 mod compare;
-mod dice;
-mod judge;
 mod letters;
 mod listed;
 mod listing;
-mod lists;
-mod made;
 mod print;
-mod random;
-mod reach;
-mod reading;
-mod value;
 mod watch;
 
 use crate::compare::random_cases;

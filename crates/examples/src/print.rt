@@ -1,5 +1,5 @@
 // Lines on standard output.
-use crate::bytes::at;
+use judge::bytes::at;
 
 // Writes text as it stands.
 pub(crate) fn text(bytes: &[u8]) {

@@ -1,11 +1,11 @@
 // One log through the watcher, as letters: the digit of a refused start alone, or a letter for each 16 bytes of the
 // log, a point, and the letter of closing.
-use crate::bytes::part;
-use crate::bytes::pieces;
-use crate::bytes::put;
 use crate::letters::answer_letter;
 use crate::letters::end_letter;
 use crate::letters::refusal_letter;
+use judge::bytes::part;
+use judge::bytes::pieces;
+use judge::bytes::put;
 use watcher::state::Found;
 use watcher::state::Wait;
 use watcher::state::Watcher;

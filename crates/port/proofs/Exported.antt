@@ -1,13 +1,12 @@
 -- What the exports answer, case by case.
 -- Assumes nothing.
-use mathlib.Core.Path.{_≡_, refl, sym, ap, _∙_}
-use mathlib.Core.Bool.{Bool, true, false, not, cond}
+use mathlib.Core.Path.{_≡_, sym, ap, _∙_}
+use mathlib.Core.Bool.{true, false, not, cond}
 use mathlib.Core.List.{List}
 use Prim.Native.Nat.{ℕ}
-use lib.Dec.{eqb}
 use lib.ListN.{length}
 use borrow.Author.Tests.{eq-eqb, ne-eqb}
-use Rattle.meaning.specs.Horizon.{Horizon, never}
+use Rattle.meaning.specs.Horizon.{never}
 use Rattle.watcher.specs.declared.state.Watcher.{Watcher}
 use Rattle.watcher.specs.declared.state.Wait.{Wait}
 use Rattle.watcher.specs.declared.state.Found.{Found}
@@ -39,7 +38,7 @@ module _ {A : Type 0} (bytes : List ℕ) (x y : A) where
   wrong-one : (length bytes ≡ stateBytes → ⊥) → x ≡ cond (wrongState bytes) x y
   wrong-one h = ap (λ b. cond b x y) (sym (long-not bytes h))
 
-  right-one : length bytes ≡ stateBytes → y ≡ cond (wrongState bytes) x y
+  pub right-one : length bytes ≡ stateBytes → y ≡ cond (wrongState bytes) x y
   right-one h = ap (λ b. cond b x y) (sym (long-so bytes h))
 
 pub start-wrong : (rule signals bytes ws : List ℕ) → (length bytes ≡ stateBytes → ⊥)

@@ -3,6 +3,8 @@ pub mod Pieces
 pub mod Digits
 pub mod Layouts
 pub mod ReadBack
+pub mod Sizes
 pub mod Exported
+pub mod Carried
 pub mod Feeding
 pub mod OnlyOne

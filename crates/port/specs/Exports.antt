@@ -1,5 +1,5 @@
 -- The watcher call by call, with its state in lent bytes: the code, the bytes and the work area afterwards.
-use mathlib.Core.Bool.{Bool, true, false, not, cond}
+use mathlib.Core.Bool.{Bool, not, cond}
 use mathlib.Core.List.{List}
 use Prim.Native.Nat.{ℕ}
 use lib.Dec.{eqb}

@@ -1,7 +1,7 @@
 -- A state in 280 bytes: the rule, the signal list, how many records each has, the last record's time and signals, and
 -- the phase. Numbers have their lowest byte first.
 use mathlib.Core.Path.{_≡_}
-use mathlib.Core.Bool.{Bool, true, false, _&&_, cond}
+use mathlib.Core.Bool.{_&&_, cond}
 use mathlib.Core.List.{List}
 use Prim.Native.Nat.{ℕ, zero, suc, _+_, _-_, _/_, _%_, _^_, _<_}
 use lib.Dec.{leb, ltb}

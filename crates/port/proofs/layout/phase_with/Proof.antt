@@ -1,6 +1,5 @@
 -- `layout::phase_with` goes by the number.
 -- Assumes nothing.
-use borrow.Author.Needs.{needs}
 use Rattle.port.proofs.Layouts.{phase-fresh, phase-running, phase-kept, phase-broken}
 use Rattle.port.proofs.layout.phase_with.Statement.{statement}
 use Rattle.port.proofs.layout.phase_with.Tie as tie

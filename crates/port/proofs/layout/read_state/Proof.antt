@@ -1,6 +1,5 @@
 -- `layout::read_state` reads the lists, the numbers and the phase.
 -- Assumes nothing.
-use mathlib.Core.Path.{_≡_}
 use Prim.Native.Nat.{_<_}
 use Rattle.ground.specs.Bytes.{little}
 use native.Mathlib.Omega.{arith}

@@ -1,0 +1,77 @@
+/* The vent watcher for C: link with target/staticlib/libport.a.
+ *
+ * Every call answers for whatever it is handed; none halts. A list is a pointer and its length, and an empty one may
+ * have any pointer. Lent lists that a call writes to must not overlap any other list of that call.
+ *
+ * A call that is refused answers the number of its refusal and leaves state, work area and codes as they were. Only a
+ * refused start writes a state of zeros, unless by 91; every further call on that state is refused. */
+#ifndef HUNCHCOLD_H
+#define HUNCHCOLD_H
+
+#include <stddef.h>
+#include <stdint.h>
+
+#ifdef __cplusplus
+extern "C" {
+#endif
+
+/* The lengths of a work area, in words of 64 bits, of a state, of a rule's or signal's record and of a log's. */
+#define HUNCHCOLD_AREA_WORDS 1664
+#define HUNCHCOLD_STATE_BYTES 280
+#define HUNCHCOLD_LIST_RECORD_BYTES 8
+#define HUNCHCOLD_LOG_RECORD_BYTES 16
+
+/* The codes that calls answer: a word or a verdict, nothing to refuse, or a refusal. */
+#define HUNCHCOLD_FINE 0
+#define HUNCHCOLD_KEPT 101
+#define HUNCHCOLD_BROKEN 102
+#define HUNCHCOLD_PENDING 103
+
+#define HUNCHCOLD_RULE_LENGTH 1      /* rule length is not a multiple of 8, or not 1 to 16 records */
+#define HUNCHCOLD_RULE_RECORD 2      /* a rule record breaks the layout */
+#define HUNCHCOLD_RULE_TWINS 3       /* two rule records have the same 8 bytes */
+#define HUNCHCOLD_RULE_PARAMETERS 4  /* more than 12 parameters */
+#define HUNCHCOLD_SIGNAL_LIST 5      /* signal list has a wrong length or a record that breaks the layout */
+#define HUNCHCOLD_SIGNAL_MISSING 6   /* the rule names a signal that the list does not define */
+#define HUNCHCOLD_AREA_LENGTH 7      /* work area is not 1,664 words */
+#define HUNCHCOLD_LOG_RECORD 8       /* log record is not 16 bytes or breaks the layout */
+#define HUNCHCOLD_LOG_TIME 9         /* time is lower than the last accepted record's */
+#define HUNCHCOLD_ALREADY_CLOSED 10  /* the watcher is closed */
+#define HUNCHCOLD_NOTHING_FED 11     /* closing with no accepted record */
+#define HUNCHCOLD_BROKEN_STATE 12    /* state or work area are not ones that a watcher hands back */
+#define HUNCHCOLD_CODES_LENGTH 90    /* codes are not one for each 16 bytes of the log and one for a short last piece */
+#define HUNCHCOLD_STATE_LENGTH 91    /* state is not 280 bytes */
+
+/* The horizon of a rule that has none. */
+#define HUNCHCOLD_FOREVER UINT64_MAX
+
+/* Runs a whole log: starts, feeds each 16 bytes and a short last piece, and closes. codes[i] is the word or the refusal
+ * of piece i. Answers the verdict, or 11 where no piece was accepted; area and codes are then written all the same.
+ * Tests 90, then 1 to 7, as start does; where one of these is answered, area and codes stay as they were. */
+uint8_t hunchcold_run(const uint8_t *rule, size_t rule_bytes, const uint8_t *signals, size_t signals_bytes,
+                      const uint8_t *log, size_t log_bytes, uint64_t *area, size_t area_words, uint8_t *codes,
+                      size_t codes_bytes);
+
+/* Starts a watcher: 0, or a refusal. Tests 91, then 1 to 7. */
+uint8_t hunchcold_start(const uint8_t *rule, size_t rule_bytes, const uint8_t *signals, size_t signals_bytes,
+                        uint8_t *state, size_t state_bytes, uint64_t *area, size_t area_words);
+
+/* Would this record be refused: 0, or the refusal that feeding it would answer. Writes nothing. */
+uint8_t hunchcold_would_refuse(const uint8_t *state, size_t state_bytes, const uint8_t *record, size_t record_bytes,
+                               const uint64_t *area, size_t area_words);
+
+/* Feeds one record: its word, or a refusal. Tests 91, then 7, 12, 10, 8, 9. */
+uint8_t hunchcold_feed(uint8_t *state, size_t state_bytes, const uint8_t *record, size_t record_bytes, uint64_t *area,
+                       size_t area_words);
+
+/* Closes the log: its verdict, or a refusal. Tests 91, then 7, 12, 10, 11. */
+uint8_t hunchcold_close(uint8_t *state, size_t state_bytes, uint64_t *area, size_t area_words);
+
+/* How many minutes past the first record the rule can stay pending; HUNCHCOLD_FOREVER where there is no such limit, and
+ * where start would refuse the state's rule or signal list, or the state is not 280 bytes. */
+uint64_t hunchcold_horizon(const uint8_t *state, size_t state_bytes);
+
+#ifdef __cplusplus
+}
+#endif
+#endif

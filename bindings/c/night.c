@@ -1,0 +1,86 @@
+/* Watches one log as the watching program does, call by call: night RULE SIGNALS LOG */
+#include "hunchcold.h"
+
+#include <inttypes.h>
+#include <stdio.h>
+
+/* The most bytes that a rule or a signal list has, and one more, so that a longer file is refused. */
+#define LIST_ROOM (16 * HUNCHCOLD_LIST_RECORD_BYTES + 1)
+
+/* Opens the file that argument i names; none where it is missing or cannot be opened. */
+static FILE *opened(int count, char **arguments, int i) {
+    return i < count ? fopen(arguments[i], "rb") : NULL;
+}
+
+/* Reads up to so many bytes; none where there is no file. */
+static size_t read_bytes(FILE *file, uint8_t *bytes, size_t room) {
+    return file == NULL ? 0 : fread(bytes, 1, room, file);
+}
+
+/* Reads a list from the file that argument i names. */
+static size_t read_list(int count, char **arguments, int i, uint8_t *bytes) {
+    FILE *file = opened(count, arguments, i);
+    size_t length = read_bytes(file, bytes, LIST_ROOM);
+    if (file != NULL) {
+        fclose(file);
+    }
+    return length;
+}
+
+/* The time of a record. */
+static uint32_t time_of(const uint8_t *record) {
+    return record[0] | (uint32_t)record[1] << 8 | (uint32_t)record[2] << 16 | (uint32_t)record[3] << 24;
+}
+
+/* Prints a word, a verdict or a refusal. */
+static void print_code(uint8_t code) {
+    switch (code) {
+    case HUNCHCOLD_KEPT:
+        puts("kept");
+        break;
+    case HUNCHCOLD_BROKEN:
+        puts("broken");
+        break;
+    case HUNCHCOLD_PENDING:
+        puts("pending");
+        break;
+    default:
+        printf("refused %d\n", code);
+    }
+}
+
+/* Feeds each piece of the log, with a line for each, and closes. */
+static void watch(uint8_t *state, uint64_t *area, FILE *log) {
+    uint8_t record[HUNCHCOLD_LOG_RECORD_BYTES];
+    size_t length;
+    while ((length = read_bytes(log, record, sizeof record)) > 0) {
+        uint8_t code = hunchcold_feed(state, HUNCHCOLD_STATE_BYTES, record, length, area, HUNCHCOLD_AREA_WORDS);
+        if (code >= HUNCHCOLD_KEPT) {
+            printf("%" PRIu32 " ", time_of(record));
+        }
+        print_code(code);
+    }
+    printf("end ");
+    print_code(hunchcold_close(state, HUNCHCOLD_STATE_BYTES, area, HUNCHCOLD_AREA_WORDS));
+}
+
+int main(int count, char **arguments) {
+    static uint64_t area[HUNCHCOLD_AREA_WORDS];
+    uint8_t state[HUNCHCOLD_STATE_BYTES];
+    uint8_t rule[LIST_ROOM];
+    uint8_t signals[LIST_ROOM];
+    size_t rule_bytes = read_list(count, arguments, 1, rule);
+    size_t signals_bytes = read_list(count, arguments, 2, signals);
+    uint8_t code = hunchcold_start(rule, rule_bytes, signals, signals_bytes, state, sizeof state, area,
+                                   HUNCHCOLD_AREA_WORDS);
+    if (code != HUNCHCOLD_FINE) {
+        print_code(code);
+        return 0;
+    }
+    FILE *log = opened(count, arguments, 3);
+    watch(state, area, log);
+    if (log != NULL) {
+        fclose(log);
+    }
+    return 0;
+}

@@ -1,0 +1,49 @@
+//! Watches one log as the watching program does, call by call: night RULE SIGNALS LOG
+
+use hunchcold::{Refusal, Watcher, LOG_RECORD_BYTES};
+use std::io::{self, Write};
+use std::{env, fs};
+
+/// The bytes of the file that an argument names; none where it cannot be opened.
+fn bytes_of(argument: Option<String>) -> Vec<u8> {
+    argument.and_then(|name| fs::read(name).ok()).unwrap_or_default()
+}
+
+/// The time of an accepted record.
+fn time_of(record: &[u8]) -> u32 {
+    record[..4]
+        .iter()
+        .rev()
+        .fold(0, |time, &byte| 256 * time + u32::from(byte))
+}
+
+/// The line of a refusal.
+fn refused(refusal: Refusal) -> String {
+    format!("refused {}", refusal.number())
+}
+
+/// Starts, feeds each piece of the log and closes, with a line for each answer.
+fn watch(rule: &[u8], signals: &[u8], log: &[u8], out: &mut impl Write) -> io::Result<()> {
+    let mut watcher = match Watcher::start(rule, signals) {
+        Ok(watcher) => watcher,
+        Err(refusal) => return writeln!(out, "{}", refused(refusal)),
+    };
+    for piece in log.chunks(LOG_RECORD_BYTES) {
+        match watcher.feed(piece) {
+            Ok(word) => writeln!(out, "{} {word}", time_of(piece))?,
+            Err(refusal) => writeln!(out, "{}", refused(refusal))?,
+        }
+    }
+    match watcher.close() {
+        Ok(verdict) => writeln!(out, "end {verdict}"),
+        Err(refusal) => writeln!(out, "end {}", refused(refusal)),
+    }
+}
+
+fn main() -> io::Result<()> {
+    let mut arguments = env::args().skip(1);
+    let rule = bytes_of(arguments.next());
+    let signals = bytes_of(arguments.next());
+    let log = bytes_of(arguments.next());
+    watch(&rule, &signals, &log, &mut io::stdout().lock())
+}

@@ -1,0 +1,98 @@
+//! The watcher, call by call.
+
+use crate::{raw, Refusal, Verdict, Word, AREA_WORDS, STATE_BYTES};
+
+/// One rule watched over one log, with its state and its work area.
+///
+/// ```
+/// use hunchcold::{Refusal, Watcher, Word};
+///
+/// // Rain, within 0 to 5 minutes: true until signal 0.
+/// let rule = [1, 0, 0, 0, 0, 0, 0, 0, 3, 0, 0, 0, 0, 0, 0, 0, 7, 0, 1, 0, 0, 5, 0, 0];
+/// let signals = [5, 0, 1, 0, 0, 0, 0, 0];
+/// let mut watcher = Watcher::start(&rule, &signals)?;
+/// assert_eq!(watcher.horizon(), Some(5));
+///
+/// let dry = [7, 0, 0, 0, 0, 0, 0, 0, 0, 0, 0, 0, 0, 0, 0, 0];
+/// assert_eq!(watcher.would_refuse(&dry), None);
+/// assert_eq!(watcher.feed(&dry)?, Word::Pending);
+/// assert_eq!(watcher.feed(&dry[..15]), Err(Refusal::LogRecord));
+///
+/// // Kept over a power cut, and taken up again.
+/// let (state, area) = watcher.into_parts();
+/// let mut watcher = Watcher::from_parts(state, area);
+/// let late = [13, 0, 0, 0, 0, 0, 0, 0, 0, 0, 0, 0, 0, 0, 0, 0];
+/// assert_eq!(watcher.feed(&late)?, Word::Broken);
+/// # Ok::<(), Refusal>(())
+/// ```
+#[derive(Clone, Debug, PartialEq, Eq)]
+pub struct Watcher {
+    state: Vec<u8>,
+    area: Vec<u64>,
+}
+
+impl Watcher {
+    /// Starts a watcher over a rule and a signal list, each as its bytes.
+    ///
+    /// # Errors
+    /// Refusals 1 to 6, tested in that order.
+    pub fn start(rule: &[u8], signals: &[u8]) -> Result<Watcher, Refusal> {
+        let mut state = vec![0; STATE_BYTES];
+        let mut area = vec![0; AREA_WORDS];
+        match raw::start(rule, signals, &mut state, &mut area) {
+            0 => Ok(Watcher { state, area }),
+            code => Err(Refusal::of_code(code)),
+        }
+    }
+
+    /// The refusal that feeding this record would answer, if any. Changes nothing.
+    pub fn would_refuse(&self, record: &[u8]) -> Option<Refusal> {
+        match raw::would_refuse(&self.state, record, &self.area) {
+            0 => None,
+            code => Some(Refusal::of_code(code)),
+        }
+    }
+
+    /// Feeds one record of the log. A record's own signals count when the next record comes, or the end.
+    ///
+    /// # Errors
+    /// Refusals 10, 8 and 9, in that order, and before them 91, 7 and 12 where parts were handed in. The watcher is
+    /// then as it was.
+    pub fn feed(&mut self, record: &[u8]) -> Result<Word, Refusal> {
+        Word::of_code(raw::feed(&mut self.state, record, &mut self.area))
+    }
+
+    /// Closes the log.
+    ///
+    /// # Errors
+    /// Refusals 10 and 11, in that order, and before them 91, 7 and 12 where parts were handed in. The watcher is then
+    /// as it was.
+    pub fn close(&mut self) -> Result<Verdict, Refusal> {
+        Verdict::of_code(raw::close(&mut self.state, &mut self.area))
+    }
+
+    /// How many minutes past the first record the rule can stay pending; none where there is no such limit, and where
+    /// parts were handed in whose rule or signal list start would refuse.
+    pub fn horizon(&self) -> Option<u64> {
+        match raw::horizon(&self.state) {
+            u64::MAX => None,
+            minutes => Some(minutes),
+        }
+    }
+
+    /// The state and the work area, to be kept.
+    pub fn parts(&self) -> (&[u8], &[u64]) {
+        (&self.state, &self.area)
+    }
+
+    /// The state and the work area, taken out.
+    pub fn into_parts(self) -> (Vec<u8>, Vec<u64>) {
+        (self.state, self.area)
+    }
+
+    /// A watcher with this state and this work area. Any are taken; each call judges them, and refuses those that no
+    /// watcher hands back with 91, 7 or 12.
+    pub fn from_parts(state: Vec<u8>, area: Vec<u64>) -> Watcher {
+        Watcher { state, area }
+    }
+}
