@@ -39,13 +39,13 @@ extern "C" {
 #define HUNCHCOLD_ALREADY_CLOSED 10  /* the watcher is closed */
 #define HUNCHCOLD_NOTHING_FED 11     /* closing with no accepted record */
 #define HUNCHCOLD_BROKEN_STATE 12    /* state or work area are not ones that a watcher hands back */
-#define HUNCHCOLD_CODES_LENGTH 90    /* codes are not one for each 16 bytes of the log and one for a short last piece */
+#define HUNCHCOLD_CODES_LENGTH 90    /* codes are not one for each 16 bytes of the log and one for a short rest */
 #define HUNCHCOLD_STATE_LENGTH 91    /* state is not 280 bytes */
 
 /* The horizon of a rule that has none. */
 #define HUNCHCOLD_FOREVER UINT64_MAX
 
-/* Runs a whole log: starts, feeds each 16 bytes and a short last piece, and closes. codes[i] is the word or the refusal
+/* Runs a whole log: starts, feeds each 16 bytes and a short last piece, and closes. codes[i] is the word or refusal
  * of piece i. Answers the verdict, or 11 where no piece was accepted; area and codes are then written all the same.
  * Tests 90, then 1 to 7, as start does; where one of these is answered, area and codes stay as they were. */
 uint8_t hunchcold_run(const uint8_t *rule, size_t rule_bytes, const uint8_t *signals, size_t signals_bytes,
@@ -67,8 +67,8 @@ uint8_t hunchcold_feed(uint8_t *state, size_t state_bytes, const uint8_t *record
 /* Closes the log: its verdict, or a refusal. Tests 91, then 7, 12, 10, 11. */
 uint8_t hunchcold_close(uint8_t *state, size_t state_bytes, uint64_t *area, size_t area_words);
 
-/* How many minutes past the first record the rule can stay pending; HUNCHCOLD_FOREVER where there is no such limit, and
- * where start would refuse the state's rule or signal list, or the state is not 280 bytes. */
+/* How many minutes past the first record the rule can stay pending; HUNCHCOLD_FOREVER where there is no such limit, for
+ * bytes that are no state, and where start would refuse the state's rule or list. */
 uint64_t hunchcold_horizon(const uint8_t *state, size_t state_bytes);
 
 #ifdef __cplusplus

@@ -1,0 +1,16 @@
+//! The codes that the library answers.
+
+pub const KEPT: u8 = 101;
+pub const BROKEN: u8 = 102;
+pub const PENDING: u8 = 103;
+
+/// What a code says.
+pub fn code_name(code: u8) -> String {
+    match code {
+        0 => "accepted".to_string(),
+        KEPT => "kept".to_string(),
+        BROKEN => "broken".to_string(),
+        PENDING => "pending".to_string(),
+        _ => format!("refused {code}"),
+    }
+}
