@@ -30,6 +30,12 @@ putIn-constant m n b σ =
     constant-is n (putIn m n (constant m b) σ) b
     (λ ρ. value-putIn m n (constant m b) σ ρ ∙ value-constant m b (λ j. value n (σ j) ρ))
 
+-- a parameter is what is put in for it
+pub putIn-parameter : (m n p : ℕ) (σ : ℕ → Form n) → p < m → putIn m n (parameter m p) σ ≡ σ p
+putIn-parameter m n p σ h =
+    canonical n (putIn m n (parameter m p) σ) (σ p)
+    (λ ρ. value-putIn m n (parameter m p) σ ρ ∙ value-parameter m p (λ j. value n (σ j) ρ) h)
+
 -- through the operations
 module _ (S : ℕ → Type 0) (m : ℕ) where
   pub depends-constant : (b : Bool) → DependsOn S m (constant m b)

@@ -10,7 +10,7 @@ use native.Mathlib.Decide.{le-ind}
 use native.Mathlib.Omega.{arith}
 use lib.Dec.{ltb}
 use lib.ListN.{length, getD, replicate}
-use lib.Pow.{pow-mono}
+use lib.Pow.{pow-lt, pow-mono}
 use borrow.Author.Tests.{lt-ltb, le-ltb}
 use Rattle.ground.specs.Fold.{_⊕_}
 use Rattle.ground.specs.Bits.{bit, ofBits, bitAt, Words}
@@ -47,9 +47,12 @@ pub pack-is : (m : ℕ) (f : Form m) (r : List ℕ) → Words 64 r → ((k : ℕ
     → r ≡ pack m f
 pack-is m f r w h = words-same 64 r (pack m f) w (pack-words m f) (λ k l. h k l ∙ sym (bit-pack m f k l))
 
--- 2 ^ m bits have room in 64 words
+-- 2 ^ m bits have room in 64 words, and the term of a parameter
 pub room : (m : ℕ) → m ≤ 12 → 2 ^ m ≤ 4096
 room m h = pow-mono {i = m} {j = 12} h
+
+pub term-room : (p : ℕ) → p < 12 → 2 ^ p < 4096
+term-room p h = pow-lt {i = p} {j = 12} h
 
 -- a form to words and back
 pub unpack-pack : (m : ℕ) (f : Form m) → m ≤ 12 → unpack m (pack m f) ≡ f

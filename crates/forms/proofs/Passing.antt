@@ -21,12 +21,13 @@ use Rattle.ground.proofs.Xor.{⊕-false}
 use Rattle.ground.proofs.Folds.{less-or-not, every-at}
 use Rattle.ground.proofs.Bits.{bit-xor, bit-and, bit-shr, bit-shl, bit-low, bit-le, bit-true, bit-false, one-shl}
 use Rattle.ground.proofs.Numbers.{bit-minus, words-of}
-use Rattle.forms.specs.Form.{Form, has, truth}
+use Rattle.forms.specs.Form.{Form, constant, has, truth}
 use Rattle.forms.specs.Words.{most, pack}
-use Rattle.forms.specs.Steps.{masks, passedBit, PassedWord, Passed}
+use Rattle.forms.specs.Steps.{Next, masks, passedBit, PassedWord, Passed}
 use Rattle.forms.proofs.Document.{bitOf-low}
-use Rattle.forms.proofs.Truths.{pass, passes, has-pass, passes-truth}
-use Rattle.forms.proofs.Packing.{bit-pack, pack-is, most-is, most-wide}
+use Rattle.forms.proofs.Truths.{pass, passes, has-pass, passes-truth, truth-false}
+use Rattle.forms.proofs.Packing.{bit-pack, pack-is, most-is, most-few, most-wide}
+use Rattle.forms.proofs.Reading.{read-none}
 
 -- the masks' rule, computed at each parameter and each bit
 mask-right : ℕ → ℕ → Bool
@@ -194,3 +195,11 @@ pub truth-done : (f : Form most) (r : List ℕ) (p : ℕ) → p ≤ 12 → 12 �
 truth-done f r p h l e =
     e ∙ ap (pack most)
     (ap (λ k. passes most k f) (let q : p ≡ 12 = omega arith in q ∙ sym most-is) ∙ passes-truth most f)
+
+-- the truth values of a row with no term
+pub truth-none : (row : List ℕ) (k : ℕ) → Next row 0 4096 k → k ≡ 4096 → (f : Form most) → row ≡ pack most f
+    → row ≡ pack most (truth most f)
+truth-none row k next end f e =
+    let none : f ≡ constant most false
+    = read-none most f row most-few e (λ l h. next .none l (omega arith) (omega arith)) in
+    e ∙ ap (pack most) (none ∙ sym (ap (truth most) none ∙ truth-false most))

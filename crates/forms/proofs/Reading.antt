@@ -12,23 +12,23 @@ use lib.Bits.{bitOr}
 use lib.Dec.{eqb, ltb}
 use lib.ListN.{length}
 use lib.Pow.{pow-mono}
-use borrow.Author.Tests.{lt-ltb, le-ltb, ne-eqb, eqb-true, eqb-false}
+use borrow.Author.Tests.{lt-ltb, le-ltb, eq-eqb, ne-eqb, eqb-true, eqb-false}
 use Rattle.ground.specs.Fold.{_⊕_, fold, every, some}
 use Rattle.ground.specs.Bits.{bit, ofBits, bitAt, Words}
 use Rattle.ground.proofs.Xor.{⊕-self}
 use Rattle.ground.proofs.Folds.{less-or-not, fold-cong, fold-skip, every-all, every-not, some-none}
 use Rattle.ground.proofs.Bits.{bit-or, bit-zero}
 use Rattle.ground.proofs.Numbers.{same-bits, ofBits-lt, bit-ofBits}
-use Rattle.forms.specs.Form.{Form, constant, has, names, same}
+use Rattle.forms.specs.Form.{Form, constant, parameter, has, names, same}
 use Rattle.forms.specs.Words.{bitOf, pack, fits}
 use Rattle.forms.specs.Rows.{whichConstant}
-use Rattle.forms.specs.Steps.{Next}
+use Rattle.forms.specs.Steps.{Next, Only}
 use Rattle.forms.specs.declared.rows.Truth.the-variants.{True, False, Open}
 use Rattle.forms.proofs.Values.{pairs}
 use Rattle.forms.proofs.Document.{bitOf-low, bitOf-high}
-use Rattle.forms.proofs.Packing.{bitOf-false, room, pack-words, bit-pack, pack-is, pack-inj}
+use Rattle.forms.proofs.Packing.{bitOf-false, room, term-room, pack-words, bit-pack, pack-is, pack-inj}
 use Rattle.forms.proofs.Joining.{union-lt}
-use Rattle.forms.proofs.Making.{bitOf-true, true-row}
+use Rattle.forms.proofs.Making.{bitOf-true, true-row, parameter-row}
 
 -- the test for the same form is right
 pub same-refl : (m : ℕ) (f : Form m) → same m f f ≡ true
@@ -118,6 +118,33 @@ module _ (m : ℕ) (f : Form m) (row : List ℕ) (few : m ≤ 12) (e : row ≡ p
   row-words : Words 64 row
   row-words = subst (λ ws. Words 64 ws) (sym e) (pack-words m f)
 
+  -- no term
+  pub read-none : ((l : ℕ) → l < 4096 → bitAt row l ≡ false) → f ≡ constant m false
+  read-none p =
+      pack-inj m f (constant m false) few
+      (sym e ∙ pack-is m (constant m false) row row-words (λ l h. p l h ∙ sym (bitOf-false m l)))
+
+  -- the term of p alone
+  pub read-parameter : (p : ℕ) → p < 12 → Only row (2 ^ p) → (p < m) × (f ≡ parameter m p)
+  read-parameter p h only = (
+    below,
+    pack-inj m f (parameter m p) few
+        (sym e ∙ parameter-row m p row below (record { words = row-words; bits = only })),
+  )
+    where
+      place : 2 ^ p < 4096
+      place = term-room p h
+
+      below : p < m
+      below =
+          ⊎-elim (λ l. l)
+          (λ l.
+          absurd
+          (false≢true
+          (sym (row-bit (2 ^ p) place ∙ bitOf-high m f (2 ^ p) (pow-mono l))
+          ∙ only (2 ^ p) place ∙ eq-eqb (2 ^ p) (2 ^ p) refl)))
+          (less-or-not p m)
+
   -- a term that is not the empty one
   pub read-open : (k : ℕ) → Next row 1 4096 k → k < 4096 → Open ≡ whichConstant m f
   read-open k next h =
@@ -135,25 +162,29 @@ module _ (m : ℕ) (f : Form m) (row : List ℕ) (few : m ≤ 12) (e : row ≡ p
     others : (l : ℕ) → 1 ≤ l → l < 4096 → bitAt row l ≡ false
     others l a b = next .none l a (omega arith)
 
-    -- the empty term alone
+    -- bits that are false from 1 on are the row's
+    from-empty : (g : ℕ → Bool) → bitAt row 0 ≡ g 0 → ((l : ℕ) → g (suc l) ≡ false) → (l : ℕ) → l < 4096
+        → bitAt row l ≡ g l
+    from-empty g q p zero h = q
+    from-empty g q p (suc l) h = others (suc l) (omega arith) h ∙ sym (p l)
+
+    -- a constant: true with the empty term, false without
+    pub read-constant : (b : Bool) → bitAt row 0 ≡ b → f ≡ constant m b
+    read-constant true q =
+        pack-inj m f (constant m true) few
+        (sym e
+        ∙ true-row m row (record {
+          words = row-words;
+          bits = from-empty (eqb 0) q (λ l. ne-eqb 0 (suc l) (λ z. omega arith));
+        }))
+    read-constant false q = read-none (from-empty (λ _. false) q (λ _. refl))
+
     pub read-true : (n : ℕ) → Next row 0 1 n → n < 1 → True ≡ whichConstant m f
     read-true n first h =
-        which-true m f
-        (pack-inj m f (constant m true) few (sym e ∙ true-row m row (record { words = row-words; bits = bits })))
-      where
-        bits : (l : ℕ) → l < 4096 → bitAt row l ≡ eqb 0 l
-        bits zero b = ap (bitAt row) (let z : 0 ≡ n = omega arith in z) ∙ first .here h
-        bits (suc l) b = others (suc l) (omega arith) b ∙ sym (ne-eqb 0 (suc l) (λ z. omega arith))
+        which-true m f (read-constant true (ap (bitAt row) (let z : 0 ≡ n = omega arith in z) ∙ first .here h))
 
-    -- no term
     pub read-false : (n : ℕ) → Next row 0 1 n → 1 ≤ n → False ≡ whichConstant m f
-    read-false n first h =
-        which-false m f
-        (pack-inj m f (constant m false) few (sym e ∙ pack-is m (constant m false) row row-words bits))
-      where
-        bits : (l : ℕ) → l < 4096 → bitAt row l ≡ bitOf m (constant m false) l
-        bits zero b = first .none 0 (omega arith) (omega arith) ∙ sym (bitOf-false m 0)
-        bits (suc l) b = others (suc l) (omega arith) b ∙ sym (bitOf-false m (suc l))
+    read-false n first h = which-false m f (read-constant false (first .none 0 (omega arith) (omega arith)))
 
 -- every row of 64 words is one of a form over 12 parameters or more
 pub fits-wide : (m : ℕ) (ws : List ℕ) → length ws ≡ 64 → 12 ≤ m → true ≡ fits m ws

@@ -1,6 +1,6 @@
 -- Rows of an area put into a form: over the most parameters, and so over fewer.
 -- Assumes nothing.
-use mathlib.Core.Path.{_≡_, sym, ap, ap₂, _∙_, subst}
+use mathlib.Core.Path.{_≡_, refl, sym, ap, ap₂, _∙_, subst}
 use mathlib.Core.Bool.{false}
 use mathlib.Core.Logic.{inl}
 use mathlib.Core.List.{List, map}
@@ -15,36 +15,29 @@ use Rattle.forms.specs.Form.{Form, constant, putIn, seen, value, truth}
 use Rattle.forms.specs.Words.{most, pack, unpack, ofTerms}
 use Rattle.forms.specs.Area.{rowAt, putRows, formIn, Holds}
 use Rattle.forms.specs.Rows.{WithRows}
-use Rattle.forms.specs.Steps.{Tables, PutTerms, TableAt, TablesOf}
+use Rattle.forms.specs.Steps.{Next, Lone, Tables, PutTerms, RowOf, TablesOf}
 use Rattle.forms.proofs.Values.{value-agree, value-putIn, canonical}
-use Rattle.forms.proofs.Depends.{putIn-constant}
-use Rattle.forms.proofs.Truths.{has-truth, truth-truth, truth-false}
+use Rattle.forms.proofs.Depends.{putIn-constant, putIn-parameter}
+use Rattle.forms.proofs.Truths.{has-truth, truth-truth}
 use Rattle.forms.proofs.Document.{bitOf-low}
-use Rattle.forms.proofs.Packing.{pack-words, bit-pack, unpack-pack, pack-inj, pack-false}
+use Rattle.forms.proofs.Packing.{pack-words, bit-pack, unpack-pack, pack-false}
 use Rattle.forms.proofs.Packing.{value-seen, pack-seen, most-is, most-few, most-wide}
+use Rattle.forms.proofs.Reading.{read-constant, read-parameter}
 use Rattle.forms.proofs.Areas.{row-put, row-kept, row-past}
 
--- no row there, or one of zeros: false
-pub table-none : (ws : List ℕ) (base count j : ℕ) → count ≤ j → TableAt ws base count j (replicate 64 0)
-table-none ws base count j h rows holds =
+-- no row there, one past the area's end, and one in it
+pub row-none : (ws : List ℕ) (base count j : ℕ) → count ≤ j → RowOf ws base count j (replicate 64 0)
+row-none ws base count j h m rows holds =
     let past : length rows ≤ j = omega (arith, holds .long) in
-    pack-false most
-    ∙ ap (pack most) (sym (truth-false most)
-    ∙ ap (truth most) (sym (List·getD-eq-default rows (constant most false) past)))
+    pack-false m ∙ ap (pack m) (sym (List·getD-eq-default rows (constant m false) past))
 
-pub table-past : (ws : List ℕ) (base count j : ℕ) → j < count → length ws < base + j
-    → TableAt ws base count j (replicate 64 0)
-table-past ws base count j h l rows holds =
-    pack-false most ∙ ap (pack most) (sym (truth-false most) ∙ ap (truth most) (sym none))
-  where
-    none : formIn most rows j ≡ constant most false
-    none =
-        pack-inj most (formIn most rows j) (constant most false) most-few
-        (sym (holds .row j h) ∙ row-past ws (base + j) (omega arith) ∙ pack-false most)
+pub row-far : (ws : List ℕ) (base count j : ℕ) → j < count → length ws < base + j
+    → RowOf ws base count j (replicate 64 0)
+row-far ws base count j h l m rows holds = sym (row-past ws (base + j) (omega arith)) ∙ holds .row j h
 
-pub table-here : (ws : List ℕ) (base count j : ℕ) (row r : List ℕ) → j < count → row ≡ rowAt ws (base + j)
-    → ((f : Form most) → row ≡ pack most f → r ≡ pack most (truth most f)) → TableAt ws base count j r
-table-here ws base count j row r h e made rows holds = made (formIn most rows j) (e ∙ holds .row j h)
+pub row-here : (ws : List ℕ) (base count j : ℕ) (r : List ℕ) → j < count → r ≡ rowAt ws (base + j)
+    → RowOf ws base count j r
+row-here ws base count j r h e m rows holds = e ∙ holds .row j h
 
 -- one table more
 pub tables-more : (ts ts′ t : List ℕ) (j : ℕ) (σ : ℕ → Form most) → length ts ≡ 768 → j < 12
@@ -118,6 +111,25 @@ put-rows row v r ts ws base count tables put back m f rows few e holds =
     put-most row v r ts ws base count tables put back (seen m most f) (wider m few rows)
     (e ∙ pack-seen m most f (fits m few)) (wider-holds m few ws base count rows holds)
     ∙ ap (pack most) (putIn-wider m few f rows) ∙ sym (pack-seen m most (putIn m m f (formIn m rows)) (fits m few))
+
+-- a constant stays
+pub put-constant : (row ws : List ℕ) (base count k : ℕ) → Next row 1 4096 k → k ≡ 4096
+    → WithRows row ws base count row
+put-constant row ws base count k next end m f rows few e holds =
+    let same : f ≡ constant m (bitAt row 0)
+    = read-constant m f row few e k next (omega arith) (bitAt row 0) refl in
+    e
+    ∙ ap (pack m)
+    (same ∙ sym (ap (λ g. putIn m m g (formIn m rows)) same ∙ putIn-constant m m (bitAt row 0) (formIn m rows)))
+
+-- a parameter is the row put in for it
+pub put-lone : (row ws r : List ℕ) (base count p : ℕ) → Lone row p → p < 12 → RowOf ws base count p r
+    → WithRows row ws base count r
+put-lone row ws r base count p lone h at m f rows few e holds =
+    let same = read-parameter m f row few e p h (lone .here h) in
+    at m rows holds
+    ∙ ap (pack m)
+    (sym (ap (λ g. putIn m m g (formIn m rows)) (same .1) ∙ putIn-parameter m m p (formIn m rows) (same .0)))
 
 -- a bit of the truth values is the form's value
 pub value-here : (row t : List ℕ) (s : ℕ) → ((f : Form most) → row ≡ pack most f → t ≡ pack most (truth most f))

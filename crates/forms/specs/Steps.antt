@@ -18,6 +18,16 @@ pub record Next (row : List ℕ) (from to r : ℕ) : Type 0 where
   pub none : (k : ℕ) → from ≤ k → k < r → bitAt row k ≡ false
   pub here : r < to → bitAt row r ≡ true
 
+-- term k is the row's only one
+abbrev pub Only : List ℕ → ℕ → Type 0
+Only row k = (l : ℕ) → l < 4096 → bitAt row l ≡ eqb k l
+
+-- r is the parameter that the row's form is, or 12 where it is none
+pub record Lone (row : List ℕ) (r : ℕ) : Type 0 where
+  pub high : r ≤ 12
+  pub here : r < 12 → Only row (2 ^ r)
+  pub all : (p : ℕ) → p < 12 → Only row (2 ^ p) → r ≡ p
+
 -- r is the row old with term i joined with each term of b
 pub record Joined (old b : List ℕ) (i : ℕ) (r : List ℕ) : Type 0 where
   pub words : Words 64 r
@@ -26,7 +36,7 @@ pub record Joined (old b : List ℕ) (i : ℕ) (r : List ℕ) : Type 0 where
 -- r is the row of term k alone
 pub record Alone (k : ℕ) (r : List ℕ) : Type 0 where
   pub words : Words 64 r
-  pub bits : (l : ℕ) → l < 4096 → bitAt r l ≡ eqb k l
+  pub bits : Only r k
 
 -- masks of the bits of a word whose number lacks parameter p, for the six parameters inside a word
 abbrev pub masks : List ℕ
@@ -61,12 +71,11 @@ abbrev pub PutTerms : List ℕ → List ℕ → ℕ → ℕ → List ℕ → Typ
 PutTerms row ts p k r =
     (σ : ℕ → Form most) → Tables ts p σ → r ≡ pack most (truth most (putIn p most (ofTerms p (bitAt row) k) σ))
 
--- r holds the truth values of form j of the count rows of the area from base on
-abbrev pub TableAt : List ℕ → ℕ → ℕ → ℕ → List ℕ → Type 0
-TableAt ws base count j r =
-    (rows : List (Form most)) → Holds most ws base count rows → r ≡ pack most (truth most (formIn most rows j))
+-- r is the row of form j of the count rows of the area from base on
+abbrev pub RowOf : List ℕ → ℕ → ℕ → ℕ → List ℕ → Type 0
+RowOf ws base count j r = (m : ℕ) (rows : List (Form m)) → Holds m ws base count rows → r ≡ pack m (formIn m rows j)
 
--- ts holds the truth values of the first twelve of them
+-- ts holds the truth values of the first twelve forms of those rows
 abbrev pub TablesOf : List ℕ → ℕ → ℕ → List ℕ → Type 0
 TablesOf ws base count ts =
     (rows : List (Form most)) → Holds most ws base count rows → Tables ts 12 (formIn most rows)

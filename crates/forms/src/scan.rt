@@ -1,6 +1,6 @@
 // The terms of a row.
 ghost use Prim.Native.Nat.{_≤_};
-ghost use Rattle.forms.specs.Steps.{Next};
+ghost use Rattle.forms.specs.Steps.{Next, Lone};
 
 // The first term of the row from `from` on and before `to`, or `to`.
 pub(crate) fn next_term(row: &[u64; 64], from: usize, to: usize) -> usize
@@ -20,4 +20,20 @@ pub(crate) fn next_term(row: &[u64; 64], from: usize, to: usize) -> usize
         }
     }
     to
+}
+
+// The parameter that the row's form is, or 12 where it is none.
+pub(crate) fn lone(row: &[u64; 64]) -> usize
+    ensures { λ r. ⌜ Lone (now (row .entry)) r ⌝ }
+{
+    let k = next_term(row, 0, 4096);
+    if next_term(row, k + 1, 4096) < 4096 {
+        return 12;
+    }
+    for p in 0..12 {
+        if k == 1 << p {
+            return p;
+        }
+    }
+    12
 }

@@ -1,6 +1,7 @@
 // The truth values of a row, and putting rows in by them.
 use crate::area::load;
 use crate::area::store;
+use crate::scan::lone;
 use crate::scan::next_term;
 ghost use mathlib.Core.Path.{_≡_};
 ghost use Prim.Native.Nat.{_+_, _^_, _≤_, _<_};
@@ -9,7 +10,7 @@ ghost use Rattle.forms.specs.Form.{Form, truth, value as valueOf};
 ghost use Rattle.forms.specs.Words.{most, pack};
 ghost use Rattle.forms.specs.Area.{rowAt};
 ghost use Rattle.forms.specs.Rows.{OfForm, WithRows};
-ghost use Rattle.forms.specs.Steps.{PassedWord, Passed, Mixed, PutTerms, TableAt, TablesOf};
+ghost use Rattle.forms.specs.Steps.{PassedWord, Passed, Mixed, PutTerms, RowOf, TablesOf};
 
 // The bits of a word whose number lacks parameter p.
 const MASKS: [u64; 6] = [
@@ -54,6 +55,10 @@ fn pass(row: [u64; 64], p: usize) -> [u64; 64]
 pub(crate) fn truth_of(row: [u64; 64]) -> [u64; 64]
     ensures { λ r. ⌜ ((f : Form most) → row ≡ pack most f → r ≡ pack most (truth most f)) ⌝ }
 {
+    // False is true nowhere.
+    if next_term(&row, 0, 4096) == 4096 {
+        return row;
+    }
     let mut r = row;
     for p in 0..12 {
         let s = pass(r, p);
@@ -94,10 +99,10 @@ fn put_terms(row: &[u64; 64], tables: &[u64; 768], p: usize, k: usize) -> [u64; 
     mix(a, tables, q, b)
 }
 
-// The truth values of row j of the count rows from base on; false from count on.
-fn table_at(area: &[u64], base: usize, count: usize, j: usize) -> [u64; 64]
+// Row j of the count rows from base on; false from count on.
+fn row_at(area: &[u64], base: usize, count: usize, j: usize) -> [u64; 64]
     requires { ⌜ j < 12 ⌝ }
-    ensures { λ r. ⌜ TableAt (now (area .entry)) base count j r ⌝ }
+    ensures { λ r. ⌜ RowOf (now (area .entry)) base count j r ⌝ }
 {
     if count <= j {
         return [0u64; 64];
@@ -105,7 +110,7 @@ fn table_at(area: &[u64], base: usize, count: usize, j: usize) -> [u64; 64]
     if area.len() < base {
         return [0u64; 64];
     }
-    truth_of(load(area, base + j))
+    load(area, base + j)
 }
 
 // The truth values of the first twelve of the count rows from base on, and of false behind them.
@@ -114,19 +119,34 @@ fn tables(area: &[u64], base: usize, count: usize) -> [u64; 768]
 {
     let mut ts = [0u64; 768];
     for j in 0..12 {
-        let t = table_at(area, base, count, j);
+        let t = truth_of(row_at(area, base, count, j));
         store(&mut ts, j, t);
     }
     ts
+}
+
+// What `put_in` makes, by truth values, whatever the row's form is.
+fn put_by_values(row: &[u64; 64], area: &[u64], base: usize, count: usize) -> [u64; 64]
+    ensures { λ r. ⌜ WithRows (now (row .entry)) (now (area .entry)) base count r ⌝ }
+{
+    let ts = tables(area, base, count);
+    let v = put_terms(row, &ts, 12, 0);
+    truth_of(v)
 }
 
 // The row's form with the count rows of the area from base on put in for its parameters, and false for the others.
 pub fn put_in(row: [u64; 64], area: &[u64], base: usize, count: usize) -> [u64; 64]
     ensures { λ r. ⌜ WithRows row (now (area .entry)) base count r ⌝ }
 {
-    let ts = tables(area, base, count);
-    let v = put_terms(&row, &ts, 12, 0);
-    truth_of(v)
+    // A constant stays, and a parameter is the row put in for it: most calls need no truth values.
+    if next_term(&row, 1, 4096) == 4096 {
+        return row;
+    }
+    let p = lone(&row);
+    if p < 12 {
+        return row_at(area, base, count, p);
+    }
+    put_by_values(&row, area, base, count)
 }
 
 // The value of the row's form where parameter j is true exactly if bit j of the setting is set.

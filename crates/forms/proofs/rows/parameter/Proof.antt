@@ -4,9 +4,9 @@ use mathlib.Core.Path.{sym, subst}
 use Prim.Native.Nat.{_<_}
 use native.Mathlib.Omega.{arith}
 use borrow.Author.Needs.{needs}
-use lib.Pow.{pow-lt}
 use Rattle.ground.proofs.Bits.{one-shl}
 use Rattle.forms.specs.Steps.{Alone}
+use Rattle.forms.proofs.Packing.{term-room}
 use Rattle.forms.proofs.Making.{parameter-row, parameter-far, parameter-past}
 use Rattle.forms.proofs.rows.parameter.Statement.{statement}
 use Rattle.forms.proofs.rows.parameter.Tie as tie
@@ -17,7 +17,7 @@ shl-alone c = search needs
 alone-requires : tie.Need-alone-requires
 alone-requires c κs =
     subst (λ x. x < 4096) (sym (one-shl (c .before .before .args .p) (omega arith)))
-    (pow-lt {i = c .before .before .args .p} {j = 12} (c .if2 .taken))
+    (term-room _ (c .if2 .taken))
 
 returns : tie.Need-returns
 returns c =

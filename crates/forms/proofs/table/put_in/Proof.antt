@@ -1,23 +1,40 @@
--- `put_in` goes to truth values, puts in, and comes back.
+-- `put_in` leaves a constant, takes the row of a parameter, and else goes by truth values.
 -- Assumes nothing.
 use borrow.Author.Needs.{needs}
-use Rattle.forms.proofs.Widening.{put-rows}
+use Rattle.forms.proofs.Widening.{put-constant, put-lone}
 use Rattle.forms.proofs.table.put_in.Statement.{statement}
 use Rattle.forms.proofs.table.put_in.Tie as tie
 
-tables-requires : tie.Need-tables-requires
-tables-requires c κs = search needs
-
-put-terms-requires : tie.Need-put-terms-requires
-put-terms-requires c κs = search needs
-
-truth-of-requires : tie.Need-truth-of-requires
-truth-of-requires c κs = search needs
+next-term-requires : tie.Need-next-term-requires
+next-term-requires c κs = search needs
 
 returns : tie.Need-returns
-returns c =
-    put-rows _ _ _ _ _ _ _ (c .before .before .before .before .tables .ensures) (c .before .put-terms .ensures)
-    (c .truth-of .ensures)
+returns c = put-constant _ _ _ _ _ (c .before .next-term .ensures) (c .if1 .taken)
+
+lone-requires : tie.Need-lone-requires
+lone-requires c κs = search needs
+
+row-at-requires : tie.Need-row-at-requires
+row-at-requires c κs = search needs
+
+returns-2 : tie.Need-returns-2
+returns-2 c =
+    put-lone _ _ _ _ _ _ (c .before .before .lone .ensures) (c .before .if2 .taken) (c .row-at .ensures)
+
+put-by-values-requires : tie.Need-put-by-values-requires
+put-by-values-requires c κs = search needs
+
+returns-3 : tie.Need-returns-3
+returns-3 c = c .put-by-values .ensures
 
 pub put-in-spec : {M : Type 1} → statement M
-put-in-spec = tie.close (tie.spec tables-requires put-terms-requires truth-of-requires returns)
+put-in-spec =
+    tie.close
+    (tie.spec
+    next-term-requires
+    returns
+    lone-requires
+    row-at-requires
+    returns-2
+    put-by-values-requires
+    returns-3)

@@ -25,8 +25,11 @@ abbrev μ-loop : tie.MeasureT-loop
 loop-holds : tie.Need-loop-holds Inv-loop μ-loop
 loop-holds c = (omega arith, refl, λ rows h j l. let z : ⊥ = omega arith in absurd z)
 
-table-at-requires : tie.Need-table-at-requires Inv-loop μ-loop
-table-at-requires c κs = search needs
+row-at-requires : tie.Need-row-at-requires Inv-loop μ-loop
+row-at-requires c κs = search needs
+
+truth-of-requires : tie.Need-truth-of-requires Inv-loop μ-loop
+truth-of-requires c κs = search needs
 
 slice-aggregate-store : tie.Need-slice-aggregate-store Inv-loop μ-loop
 slice-aggregate-store c = search needs
@@ -42,14 +45,16 @@ loop-less c = search needs
 
 loop-again : tie.Need-loop-again Inv-loop μ-loop
 loop-again c =
-    let at = c .before .before .before .before .before .loop in
+    let made = c .before .before .before in
+    let at = made .before .before .before .loop in
     let sofar = at .inv in
     let less : at .j < 12 = omega arith in (
       omega arith,
       search needs,
       λ rows h.
           tables-more _ _ _ _ (formIn most rows) (sofar .1) less
-          (c .before .before .before .table-at .ensures rows h) (c .before .store .ensures) (sofar .2 rows h),
+          (made .truth-of .ensures (formIn most rows (at .j)) (made .before .row-at .ensures most rows h))
+          (c .before .store .ensures) (sofar .2 rows h),
     )
 
 returns : tie.Need-returns Inv-loop μ-loop
@@ -62,7 +67,8 @@ tables-spec =
     Inv-loop
     μ-loop
     loop-holds
-    table-at-requires
+    row-at-requires
+    truth-of-requires
     slice-aggregate-store
     store-requires
     add-j

@@ -1,4 +1,4 @@
--- `truth_of` makes the twelve passes.
+-- `truth_of` makes the twelve passes, and leaves a row with no term as it is.
 -- Assumes nothing.
 use mathlib.Core.Path.{_≡_}
 use Prim.Native.Nat.{_-_, _≤_}
@@ -7,7 +7,7 @@ use borrow.Author.Needs.{needs}
 use Rattle.forms.specs.Form.{Form}
 use Rattle.forms.specs.Words.{most, pack}
 use Rattle.forms.proofs.Truths.{passes}
-use Rattle.forms.proofs.Passing.{truth-more, truth-done}
+use Rattle.forms.proofs.Passing.{truth-more, truth-done, truth-none}
 use Rattle.forms.proofs.table.truth_of.Statement.{statement}
 use Rattle.forms.proofs.table.truth_of.Tie as tie
 
@@ -16,6 +16,12 @@ Inv-loop r₀ p₀ r p = (p ≤ 12) × ((f : Form most) → r₀ ≡ pack most f
 
 abbrev μ-loop : tie.MeasureT-loop
 μ-loop r₀ p₀ r p = 12 - p
+
+next-term-requires : tie.Need-next-term-requires Inv-loop μ-loop
+next-term-requires c κs = search needs
+
+returns : tie.Need-returns Inv-loop μ-loop
+returns c = truth-none _ _ (c .before .next-term .ensures) (c .if1 .taken)
 
 loop-holds : tie.Need-loop-holds Inv-loop μ-loop
 unfolding passes
@@ -37,11 +43,21 @@ loop-again c = (
       truth-more f _ _ _ (c .before .loop-test .taken) (c .before .before .loop .inv .1 f e) (c .pass .ensures),
 )
 
-returns : tie.Need-returns Inv-loop μ-loop
-returns c f e =
+returns-2 : tie.Need-returns-2 Inv-loop μ-loop
+returns-2 c f e =
     truth-done f _ _ (c .before .loop .inv .0) (c .loop-test .left) (c .before .loop .inv .1 f e)
 
 pub truth-of-spec : {M : Type 1} → statement M
 truth-of-spec =
     tie.close
-    (tie.spec Inv-loop μ-loop loop-holds pass-requires add-p loop-less loop-again returns)
+    (tie.spec
+    Inv-loop
+    μ-loop
+    next-term-requires
+    returns
+    loop-holds
+    pass-requires
+    add-p
+    loop-less
+    loop-again
+    returns-2)
