@@ -1,6 +1,6 @@
 -- The states that calls hand back fit their bytes.
 -- Assumes nothing.
-use mathlib.Core.Path.{_≡_}
+use mathlib.Core.Path.{_≡_, refl, sym}
 use mathlib.Core.Bool.{Bool, true, false, cond}
 use mathlib.Core.List.{List}
 use Prim.Native.Nat.{ℕ, zero, suc, _+_, _^_, _≤_, _<_}
@@ -18,7 +18,9 @@ use Rattle.watcher.specs.Limits.{listBytes}
 use Rattle.watcher.specs.Rules.{recordsOf}
 use Rattle.watcher.specs.Records.{timeOf, signalWord, entryOf}
 use Rattle.watcher.specs.Calls.{startRefusal, padded, zeroState, freshState, runningState, closedState}
-use Rattle.watcher.proofs.OwnStates.{start-accepted, rule-short, list-short}
+use Rattle.watcher.proofs.Decoded.{fine-tests, accepted-list}
+use Rattle.watcher.proofs.Refusing.{length-most}
+use Rattle.watcher.proofs.Testing.{start-passed}
 use Rattle.port.specs.Layout.{rulePlace, listPlace, recordsPlace, signalsPlace, timePlace, wordPlace, phasePlace}
 use Rattle.port.specs.Layout.{timeIn, signalsIn, phaseWith, listAt, stateIn, Sized}
 
@@ -46,12 +48,13 @@ few-records list h = omega arith
 pub sized-fresh : (rule signals ws : List ℕ) → startRefusal rule signals ws ≡ Fine → Sized (freshState rule signals)
 unfolding freshState padded timeIn signalsIn
 sized-fresh rule signals ws e =
-    let a = start-accepted rule signals ws e .0 in
+    let a = fine-tests rule signals (start-passed rule signals ws Fine (sym e) refl .0) in
+    let l = accepted-list rule signals a in
     record {
       rule = length-tab listBytes (λ i. getD rule i 0);
       list = length-tab listBytes (λ i. getD signals i 0);
-      records = few-records rule (rule-short rule signals a);
-      signals = few-records signals (list-short rule signals a);
+      records = few-records rule (length-most rule (a .long));
+      signals = few-records signals (omega (arith, l .whole, l .most));
       time = omega arith;
       word = omega arith;
     }

@@ -8,9 +8,6 @@ pub mod Numbers
 pub mod State
 pub mod Calls
 pub mod Runs
-pub mod Demands
-pub mod BadWatchers
-pub mod Examples
 pub mod Shapes
 pub mod Turns
 pub mod Horizons

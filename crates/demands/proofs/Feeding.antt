@@ -12,32 +12,32 @@ use Rattle.meaning.specs.Rule.{Node, Entry, parameters}
 use Rattle.meaning.specs.Words.{Known, first, feed, close, valueIfLast, word}
 use Rattle.meaning.specs.Words as words
 use Rattle.rewriting.specs.Known.{wordsFor, areaOf, knownIn}
 use Rattle.watcher.specs.declared.state.Watcher.{Watcher}
 use Rattle.watcher.specs.declared.state.Phase.{Phase}
 use Rattle.watcher.specs.declared.state.Phase.the-variants as phase
 use Rattle.watcher.specs.declared.state.Refusal.{Refusal}
 use Rattle.watcher.specs.declared.state.Refusal.the-variants.{LogRecord, LogTime, AlreadyClosed, NothingFed}
 use Rattle.watcher.specs.declared.state.Found.the-variants.{Fine, Refused}
 use Rattle.watcher.specs.declared.state.Answer.the-variants as answer
 use Rattle.watcher.specs.declared.state.End.the-variants as end
 use Rattle.watcher.specs.declared.state.Fed.{Fed}
 use Rattle.watcher.specs.declared.state.Ended.{Ended}
 use Rattle.watcher.specs.Limits.{mostParameters, areaWords}
 use Rattle.watcher.specs.Rules.{recordsOf}
 use Rattle.watcher.specs.Records.{wrongRecord, timeOf, entryOf}
 use Rattle.watcher.specs.Lists.{firstRefusal}
 use Rattle.watcher.specs.Numbers.{saying, verdictFor, Stage, stageOf}
 use Rattle.watcher.specs.State.{parametersOf, brokenState}
 use Rattle.watcher.specs.Calls.{wrongArea, isClosed, isFresh, tooEarly, stateTests, feedRefusal, closeRefusal}
 use Rattle.watcher.specs.Calls.{knownNext, runningState, feedWith, feedOf, knownNow, closedState}
 use Rattle.watcher.specs.Calls.{closeWith, closeOf}
 use Rattle.watcher.specs.Calls.{freshState}
 use Rattle.watcher.specs.Runs.{accepts, readRule, parametersIn, heldKnown, heldAfter}
 use Rattle.watcher.proofs.Decoded.{Accepted}
 use Rattle.rewriting.proofs.Placed.{length-areaOf, read-past, read-remainder}
-use Rattle.watcher.proofs.Padding.{entry-padded}
-use Rattle.watcher.proofs.OwnStates.{stateIn, list-short, rule-in, few-parameters, Lawful, fresh-fine}
-use Rattle.watcher.proofs.OwnStates.{running-fine}
+use Rattle.demands.proofs.Padding.{entry-padded}
+use Rattle.demands.proofs.OwnStates.{stateIn, list-short, rule-in, few-parameters, Lawful, fresh-fine}
+use Rattle.demands.proofs.OwnStates.{running-fine}
 
 -- a record is accepted, wrong, or too early
 pub data Judged (last : ℕ) (bytes : List ℕ) : Type 0 where

@@ -13,13 +13,13 @@ use Rattle.meaning.specs.Words.{Known, first, feed, fed, after}
 use Rattle.meaning.proofs.Blocks.{length-pastRows, firstOf-fits}
 use Rattle.meaning.proofs.Shapes.{first-shape, feed-shape}
 use Rattle.meaning.proofs.Settling.{Climbs, last-after}
 use Rattle.watcher.specs.Rules.{recordsOf}
 use Rattle.watcher.specs.Records.{timeOf, entryOf}
 use Rattle.watcher.specs.Runs.{accepts, acceptedAfter, acceptedLog}
 use Rattle.watcher.specs.Runs.{lastTime, readRule, parametersIn}
-use Rattle.watcher.proofs.Padding.{entry-below}
-use Rattle.watcher.proofs.OwnStates.{Lawful}
-use Rattle.watcher.proofs.Feeding.{Judged, taken, wrong, early, judge}
+use Rattle.demands.proofs.Padding.{entry-below}
+use Rattle.demands.proofs.OwnStates.{Lawful}
+use Rattle.demands.proofs.Feeding.{Judged, taken, wrong, early, judge}
 
 -- no signal past so many holds in any record of a log
 abbrev pub Below : ℕ → List Entry → Type 0

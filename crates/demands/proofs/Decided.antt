@@ -17,21 +17,21 @@ use Rattle.meaning.proofs.Blocks.{firstOf-fits}
 use Rattle.meaning.proofs.Theorems.{wordOf, close-value, close-word, word-decides, decided-stays}
 use Rattle.meaning.proofs.Horizons.{AllFinite, finite-horizon}
 use Rattle.meaning.proofs.Settling.{Climbs, climbs-rising, settled-word}
 use Rattle.watcher.specs.declared.state.Phase.{Phase}
 use Rattle.watcher.specs.declared.state.Phase.the-variants as phase
 use Rattle.watcher.specs.declared.state.End.the-variants as end
 use Rattle.rewriting.specs.Known.{formAt}
 use Rattle.rewriting.proofs.Placed.{read-remainder}
 use Rattle.watcher.specs.Limits.{mostParameters}
 use Rattle.watcher.specs.Rules.{recordsOf}
 use Rattle.watcher.specs.Numbers.{verdictFor}
 use Rattle.watcher.specs.Calls.{freshState, runningState, waitOf}
 use Rattle.watcher.specs.Runs.{Held, closedOne, endOf, acceptedAfter, acceptedLog}
 use Rattle.watcher.specs.Runs.{lastTime, readRule, parametersIn, heldAfter, heldKnown, wordAfter}
 use Rattle.watcher.proofs.Decoded.{Accepted, accepted-ordered, accepted-some}
-use Rattle.watcher.proofs.OwnStates.{stateIn, rule-in, few-parameters, lists-in}
-use Rattle.watcher.proofs.Logs.{Below, fed-more, accepted-climbs, last-known}
-use Rattle.watcher.proofs.OwnWork.{shutAt, close-some}
+use Rattle.demands.proofs.OwnStates.{stateIn, rule-in, few-parameters, lists-in}
+use Rattle.demands.proofs.Logs.{Below, fed-more, accepted-climbs, last-known}
+use Rattle.demands.proofs.OwnWork.{shutAt, close-some}
 
 -- what holds of the rule in accepted lists
 module _ (rule signals : List ℕ) (fine : Accepted rule signals) where

@@ -3,13 +3,13 @@
 use mathlib.Core.Path.{_≡_, refl, ap, subst, sym}
 use mathlib.Core.List.{List}
 use Prim.Native.Nat.{ℕ}
 use Rattle.watcher.specs.declared.state.Word.{Word}
 use Rattle.watcher.specs.declared.state.Answer.{Answer}
 use Rattle.watcher.specs.declared.state.Answer.the-variants.{Accepted, Refused}
-use Rattle.watcher.specs.Demands.{Says, ClosingReports, StateIsRewritten, WordIsRewritten, WordHolds}
-use Rattle.watcher.specs.Demands.{WordStays, DecidedInTime}
-use Rattle.watcher.proofs.Runs.{run-state}
-use Rattle.watcher.proofs.Demands.{close-says, feed-takes, word-holds, word-stays, in-time}
+use Rattle.demands.specs.Demands.{Says, ClosingReports, StateIsRewritten, WordIsRewritten, WordHolds}
+use Rattle.demands.specs.Demands.{WordStays, DecidedInTime}
+use Rattle.demands.proofs.Runs.{run-state}
+use Rattle.demands.proofs.Demands.{close-says, feed-takes, word-holds, word-stays, in-time}
 
 -- a record with a word has that answer
 says-answer : (a : Answer) (w : Word) → Says a w → a ≡ Accepted (record { word = w })

@@ -10,30 +10,30 @@ use Rattle.forms.specs.Area.{rowAt}
 use Rattle.meaning.specs.Rule.{Entry}
 use Rattle.meaning.specs.Words.{Known, after, close, valueIfLast}
 use Rattle.rewriting.specs.Known.{areaOf}
 use Rattle.watcher.specs.declared.state.Phase.the-variants as phase
 use Rattle.watcher.specs.declared.state.Verdict.{Verdict}
 use Rattle.watcher.specs.declared.state.Refusal.{Refusal}
 use Rattle.watcher.specs.declared.state.Refusal.the-variants.{NothingFed, AlreadyClosed}
 use Rattle.watcher.specs.declared.state.Found.the-variants.{Fine, Refused}
 use Rattle.watcher.specs.declared.state.End.the-variants as end
 use Rattle.watcher.specs.declared.state.Ended.{Ended}
 use Rattle.watcher.specs.Limits.{mostParameters}
 use Rattle.watcher.specs.Rules.{recordsOf}
 use Rattle.watcher.specs.Records.{entryOf}
 use Rattle.watcher.specs.Numbers.{verdictFor, stageOf}
 use Rattle.watcher.specs.State.{brokenState}
 use Rattle.watcher.specs.Calls.{wrongArea, isClosed, isFresh, startRefusal, closeRefusal, closeOf, freshState}
 use Rattle.watcher.specs.Runs.{Held, started, fedOne, closedOne, endOf}
 use Rattle.watcher.specs.Runs.{Call, feeding, closing, called, calledAll}
 use Rattle.watcher.specs.Runs.{lastTime, readRule, parametersIn, heldAfter, heldKnown}
 use Rattle.watcher.proofs.Decoded.{Accepted}
-use Rattle.watcher.proofs.Padding.{entry-below}
-use Rattle.watcher.proofs.OwnRows.{past-laid}
-use Rattle.watcher.proofs.OwnStates.{start-accepted, stateIn, closed-fine}
-use Rattle.watcher.proofs.Feeding.{Judged, taken, wrong, early, judge, closed-refuses, close-nothing}
-use Rattle.watcher.proofs.Feeding.{refused-close, area-right, closedInto, close-known}
-use Rattle.watcher.proofs.Logs.{Below, below-more, after-lawful}
-use Rattle.watcher.proofs.Runs.{stays, wrong-stays, early-stays, ready-after, fed-turn, started-is}
+use Rattle.demands.proofs.Padding.{entry-below}
+use Rattle.demands.proofs.OwnRows.{past-laid}
+use Rattle.demands.proofs.OwnStates.{start-accepted, stateIn, closed-fine}
+use Rattle.demands.proofs.Feeding.{Judged, taken, wrong, early, judge, closed-refuses, close-nothing}
+use Rattle.demands.proofs.Feeding.{refused-close, area-right, closedInto, close-known}
+use Rattle.demands.proofs.Logs.{Below, below-more, after-lawful}
+use Rattle.demands.proofs.Runs.{stays, wrong-stays, early-stays, ready-after, fed-turn, started-is}
 
 -- the answer to closing and what is handed on, by the outcome
 pub ended : (h : Held) (o : Ended × List ℕ) → closeOf (h .state) (h .area) ≡ o

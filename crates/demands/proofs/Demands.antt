@@ -13,31 +13,31 @@ use Rattle.meaning.specs.Horizon.{within, horizon}
 use Rattle.meaning.specs.Words as words
 use Rattle.meaning.proofs.Theorems.{wordOf}
 use Rattle.meaning.proofs.Horizons.{AllFinite}
 use Rattle.watcher.specs.declared.state.Word.{Word}
 use Rattle.watcher.specs.declared.state.Word.the-variants as told
 use Rattle.watcher.specs.declared.state.Answer.{Answer}
 use Rattle.watcher.specs.declared.state.Answer.the-variants as answer
 use Rattle.watcher.specs.declared.state.End.the-variants as end
 use Rattle.watcher.specs.declared.state.Refusal.{Refusal}
 use Rattle.watcher.specs.declared.state.Refusal.the-variants.{LogRecord, LogTime, NothingFed}
 use Rattle.watcher.specs.declared.state.Found.the-variants.{Fine}
 use Rattle.watcher.specs.Limits.{mostParameters}
 use Rattle.watcher.specs.Rules.{recordsOf}
 use Rattle.watcher.specs.Records.{wrongRecord, timeOf, entryOf}
 use Rattle.watcher.specs.Numbers.{saying, verdictFor}
 use Rattle.watcher.specs.Numbers as numbers
 use Rattle.watcher.specs.Calls.{startRefusal, waitOf}
 use Rattle.watcher.specs.Runs.{Held, fedOne, answerTo, ran, closedOne, endOf, accepts, acceptedAfter}
 use Rattle.watcher.specs.Runs.{acceptedLog}
 use Rattle.watcher.specs.Runs.{lastTime, readRule, heldAfter, wordAfter, decided}
 use Rattle.watcher.proofs.Decoded.{Accepted}
-use Rattle.watcher.proofs.OwnStates.{start-accepted}
-use Rattle.watcher.proofs.Feeding.{Judged, taken, wrong, early, judge}
-use Rattle.watcher.proofs.Logs.{Below, accepted-below, accepted-more, last-more}
-use Rattle.watcher.proofs.Runs.{wrong-stays, early-stays, ready-after, fed-turn, run-state}
-use Rattle.watcher.proofs.OwnWork.{close-none, close-keeps}
-use Rattle.watcher.proofs.Decided.{log-decided, log-settled, log-closes, wait-after, finite-rule}
-use Rattle.watcher.proofs.Decided.{accepted-rising}
+use Rattle.demands.proofs.OwnStates.{start-accepted}
+use Rattle.demands.proofs.Feeding.{Judged, taken, wrong, early, judge}
+use Rattle.demands.proofs.Logs.{Below, accepted-below, accepted-more, last-more}
+use Rattle.demands.proofs.Runs.{wrong-stays, early-stays, ready-after, fed-turn, run-state}
+use Rattle.demands.proofs.OwnWork.{close-none, close-keeps}
+use Rattle.demands.proofs.Decided.{log-decided, log-settled, log-closes, wait-after, finite-rule}
+use Rattle.demands.proofs.Decided.{accepted-rising}
 
 -- an answer is not both a refusal and a word
 refused-or : (r : Refusal) (a : Answer) → a ≡ answer.Refused r → (w : Word)

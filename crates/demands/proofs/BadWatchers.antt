@@ -16,39 +16,39 @@ use Rattle.meaning.proofs.Theorems.{wordOf}
 use Rattle.meaning.specs.Words.{first, fed, after, word}
 use Rattle.rewriting.specs.Known.{formAt}
 use Rattle.rewriting.specs.Decode.{byteOf}
 use Rattle.watcher.specs.declared.state.Phase.the-variants as phase
 use Rattle.watcher.specs.declared.state.Word.{Word}
 use Rattle.watcher.specs.declared.state.Word.the-variants as told
 use Rattle.watcher.specs.declared.state.Found.{Found}
 use Rattle.watcher.specs.declared.state.Found.the-variants as found
 use Rattle.watcher.specs.declared.state.Found.the-variants.{Fine}
 use Rattle.watcher.specs.declared.state.Answer.{Answer}
 use Rattle.watcher.specs.declared.state.Answer.the-variants as answer
 use Rattle.watcher.specs.declared.state.End.{End}
 use Rattle.watcher.specs.declared.state.End.the-variants as end
 use Rattle.watcher.specs.declared.state.Started.{Started}
 use Rattle.watcher.specs.declared.state.Fed.{Fed}
 use Rattle.watcher.specs.declared.state.Ended.{Ended}
 use Rattle.watcher.specs.Limits.{mostParameters, areaWords}
 use Rattle.watcher.specs.Rules.{recordsOf}
 use Rattle.watcher.specs.Signals.{limitOf}
 use Rattle.watcher.specs.Records.{wrongRecord, timeOf, windOf, windMeets, meets, signalHolds, signalWord}
 use Rattle.watcher.specs.Records.{entryOf}
 use Rattle.watcher.specs.Numbers.{saying, verdictFor}
 use Rattle.watcher.specs.Calls.{startRefusal, runningState}
 use Rattle.watcher.specs.Runs.{Held, started, fedOne, fedAll, answersTo, answerTo, ran, closedOne, endOf}
 use Rattle.watcher.specs.Runs.{accepts, acceptedAfter, acceptedLog, readRule, parametersIn}
 use Rattle.watcher.specs.Runs.{heldKnown, heldAfter}
-use Rattle.watcher.specs.Examples.{ruleA, vents, at}
-use Rattle.watcher.specs.BadWatchers.{Three, Meets, RefusesStarts, RefusesRecords, RefusesClosing}
-use Rattle.watcher.specs.BadWatchers.{StartsUntouched, FeedsUntouched, ClosesUntouched}
-use Rattle.watcher.specs.BadWatchers.{NeverSaysBroken, NeverEndsBroken, OnlyNods}
-use Rattle.watcher.proofs.ExampleRuns.{telling, secondLog, rule-passes, second-run}
-use Rattle.watcher.proofs.OwnStates.{start-accepts, start-accepted}
-use Rattle.watcher.proofs.Runs.{started-is, run-state}
-use Rattle.watcher.proofs.Decided.{word-in-area, word-closed, accepted-rising}
-use Rattle.watcher.proofs.Logs.{Below, accepted-below}
-use Rattle.watcher.proofs.Demands.{word-told}
+use Rattle.demands.specs.Examples.{ruleA, vents, at}
+use Rattle.demands.specs.BadWatchers.{Three, Meets, RefusesStarts, RefusesRecords, RefusesClosing}
+use Rattle.demands.specs.BadWatchers.{StartsUntouched, FeedsUntouched, ClosesUntouched}
+use Rattle.demands.specs.BadWatchers.{NeverSaysBroken, NeverEndsBroken, OnlyNods}
+use Rattle.demands.proofs.ExampleRuns.{telling, secondLog, rule-passes, second-run}
+use Rattle.demands.proofs.OwnStates.{start-accepts, start-accepted}
+use Rattle.demands.proofs.Runs.{started-is, run-state}
+use Rattle.demands.proofs.Decided.{word-in-area, word-closed, accepted-rising}
+use Rattle.demands.proofs.Logs.{Below, accepted-below}
+use Rattle.demands.proofs.Demands.{word-told}
 
 -- an area of 1,664 words, all alike
 unfoldable area : ℕ → List ℕ

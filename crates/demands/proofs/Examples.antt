@@ -13,18 +13,18 @@ use Rattle.meaning.specs.Meaning.{nextAt, untilAt, sinceAt, meaning, values, va
 use Rattle.meaning.specs.Rewriting.{put, onlyIf, formOf, formsOf, parameterTo, rowTo, nextRow, untilLater, derivedRow}
 use Rattle.meaning.specs.Rewriting.{derivedRows, sinceEarlier, pastRow, pastRows}
 use Rattle.meaning.specs.Words.{start, first, feed, close, wordFor, word}
 use Rattle.watcher.specs.Numbers.{refusalNumber}
 use Rattle.rewriting.specs.Decode.{byteOf}
 use Rattle.watcher.specs.Rules.{recordsOf, wrongLength, usedBytes, uses, fairLimits, usedRight}
 use Rattle.rewriting.specs.Decode.{intervalOf, nodeOf}
 use Rattle.watcher.specs.Rules.{byteBreaks, recordBreaks, ruleBreaks, sameRecord, hasTwins}
 use Rattle.rewriting.specs.Decode.{nodeIn, ruleIn}
 use Rattle.watcher.specs.Signals.{signalBreaks, wrongSignals, namesMissing, limitOf}
 use Rattle.watcher.specs.Records.{wrongRecord, timeOf, windOf, windMeets, meets, signalHolds}
 use Rattle.watcher.specs.Records.{signalWord, entryOf}
 use Rattle.watcher.specs.Lists.{firstRefusal, listTests, listsRefusal}
 use Rattle.watcher.specs.Rules.{manyParameters}
-use Rattle.watcher.specs.Examples.{allIn, table, passes}
+use Rattle.demands.specs.Examples.{allIn, table, passes}
 
 pub examples : allIn passes table ≡ true
 unfolding table passes fold someIn everyIn tab bit ofBits little constant parameter xor and or putIn same

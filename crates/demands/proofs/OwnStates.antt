@@ -12,27 +12,27 @@ use Rattle.meaning.specs.Rule.{parameters}
 use Rattle.meaning.specs.Words.{Known}
 use Rattle.meaning.proofs.Shapes.{KnownShape}
 use Rattle.rewriting.specs.Known.{areaOf, pastIn}
 use Rattle.watcher.specs.declared.state.Watcher.{Watcher}
 use Rattle.watcher.specs.declared.state.Phase.{Phase}
 use Rattle.watcher.specs.declared.state.Phase.the-variants as phase
 use Rattle.watcher.specs.declared.state.Verdict.{Verdict}
 use Rattle.watcher.specs.declared.state.Refusal.the-variants.{AreaLength}
 use Rattle.watcher.specs.declared.state.Found.the-variants.{Fine, Refused}
 use Rattle.watcher.specs.Limits.{mostRecords, mostSignals, mostParameters, listBytes, areaWords}
 use Rattle.watcher.specs.Rules.{recordsOf}
 use Rattle.watcher.specs.Lists.{Test, firstRefusal, listTests, listsRefusal}
 use Rattle.watcher.specs.Numbers.{stageOf}
 use Rattle.watcher.specs.State.{ruleOf, parametersOf, ruleBytes, listBytesOf, isRefused, startRefuses}
 use Rattle.watcher.specs.State.{notZerosBehind, signalsAbove, bitsAbove, notZeroFrom, wrongRows, wrongInPhase}
 use Rattle.watcher.specs.State.{brokenState}
 use Rattle.watcher.specs.Calls.{wrongArea, startRefusal, padded}
 use Rattle.watcher.specs.Runs.{readRule, parametersIn}
 use Rattle.watcher.proofs.Decoded.{Accepted, fine-tests, tests-fine, first-fine, length-fine, Whole}
 use Rattle.watcher.proofs.Decoded.{accepted-list, accepted-few}
 use Rattle.watcher.proofs.Refusing.{length-most}
 use Rattle.rewriting.proofs.Placed.{read-past}
-use Rattle.watcher.proofs.Padding.{take-padded, zeros-padded, rule-padded}
-use Rattle.watcher.proofs.OwnRows.{bits-fine, unused-fine, rows-fine}
+use Rattle.demands.proofs.Padding.{take-padded, zeros-padded, rule-padded}
+use Rattle.demands.proofs.OwnRows.{bits-fine, unused-fine, rows-fine}
 
 -- tests one after another
 first-split : (ts us : List Test) → firstRefusal (ts ++ us) ≡ Fine

@@ -1,0 +1,15 @@
+pub mod Examples
+pub mod Padding
+pub mod OwnRows
+pub mod OwnStates
+pub mod Feeding
+pub mod Logs
+pub mod Runs
+pub mod OwnWork
+pub mod Decided
+pub mod Demands
+pub mod Demanded
+pub mod ExampleRuns
+pub mod BadWatchers
+pub mod Scratch
+pub mod Leaving
