@@ -59,6 +59,10 @@ pub fn put_in(row: &Row, area: &[u64], base: usize, count: usize) -> Row {
     if named == 0 {
         return *row;
     }
+    if named.is_power_of_two() && next_term(row, 0, 4096) == named {
+        let p = named.trailing_zeros() as usize;
+        return if p < count { *row_at(area, base + p) } else { NO_TERMS };
+    }
     let mut tables = [NO_TERMS; 12];
     for j in (0..count).filter(|j| named >> j & 1 == 1) {
         tables[j] = truth_of(row_at(area, base + j));

@@ -18,3 +18,12 @@ pub fn next_term(row: &Row, from: usize, to: usize) -> usize {
     }
     to
 }
+
+/// The parameter that the row's form is, or 12 where it is none.
+pub fn lone(row: &Row) -> usize {
+    let k = next_term(row, 0, 4096);
+    if next_term(row, k + 1, 4096) < 4096 {
+        return 12;
+    }
+    (0..12).find(|p| k == 1 << p).unwrap_or(12)
+}

@@ -1,7 +1,7 @@
 //! The truth values of a row, and putting rows in by them.
 
 use super::rows::{row_at, Row, NO_TERMS};
-use super::scan::next_term;
+use super::scan::{lone, next_term};
 
 /// The truth values of twelve rows.
 type Tables = [Row; 12];
@@ -39,6 +39,10 @@ fn pass(row: &mut Row, p: usize) {
 /// The truth values of the row's form: bit s is its value where exactly the parameters of s are true.
 fn truth_of(row: &Row) -> Row {
     let mut r = *row;
+    // False is true nowhere.
+    if next_term(row, 0, 4096) == 4096 {
+        return r;
+    }
     for p in 0..12 {
         pass(&mut r, p);
     }
@@ -82,6 +86,19 @@ fn tables(area: &[u64], base: usize, count: usize) -> Tables {
 
 /// The row's form with the count rows of the area from base on put in for its parameters.
 pub fn put_in(row: &Row, area: &[u64], base: usize, count: usize) -> Row {
+    // A constant stays, and a parameter is the row put in for it: most calls need no truth values.
+    if next_term(row, 1, 4096) == 4096 {
+        return *row;
+    }
+    let p = lone(row);
+    if p < 12 {
+        return if p < count { *row_at(area, base + p) } else { NO_TERMS };
+    }
+    put_by_values(row, area, base, count)
+}
+
+/// What `put_in` makes, by truth values, whatever the row's form is.
+fn put_by_values(row: &Row, area: &[u64], base: usize, count: usize) -> Row {
     let tables = tables(area, base, count);
     let v = put_terms(row, &tables, 12, 0);
     truth_of(&v)
