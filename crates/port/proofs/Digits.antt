@@ -9,16 +9,6 @@ use lib.ListN.{getD}
 use Rattle.ground.specs.Bytes.{little}
 use Rattle.port.specs.Layout.{digit}
 
-pub digit-small : (n k : ℕ) → digit n k < 256
-unfolding digit
-digit-small n zero = omega arith
-digit-small n (suc k) = digit-small (n / 256) k
-
--- one byte further on, a 256th of the number
-pub digit-next : (n k : ℕ) → digit n (suc k) ≡ digit (n / 256) k
-unfolding digit
-digit-next n k = refl
-
 -- where n bytes are those of a number below 256 ^ n, they make that number
 pub little-digits : (bytes : List ℕ) (at n x : ℕ) → ((k : ℕ) → k < n → getD bytes (at + k) 0 ≡ digit x k) → x < 256 ^ n
     → little bytes at n ≡ x

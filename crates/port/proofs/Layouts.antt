@@ -21,7 +21,8 @@ use Rattle.watcher.specs.Limits.{listBytes}
 use Rattle.watcher.specs.Calls.{zeroState}
 use Rattle.port.specs.Layout.{stateBytes, rulePlace, listPlace, recordsPlace, signalsPlace, timePlace, wordPlace}
 use Rattle.port.specs.Layout.{phasePlace, zeroPlace, digit, phaseNumber, timeIn, signalsIn, numberByte, byteAt}
-use Rattle.port.specs.Layout.{listPut, phaseWith, listAt, stateIn}
+use Rattle.port.specs.Layout.{phaseWith, listAt, stateIn}
+use Rattle.port.specs.Steps.{listPut}
 
 module _ (records signals time word phase i : ℕ) where
   pub number-records : i < signalsPlace
@@ -82,14 +83,14 @@ byte-number w i a = rw (le-ltb i listPlace (omega arith)) (rw (le-ltb i recordsP
 abbrev pub putAt : (bytes : List ℕ) (place n : ℕ) (list : List ℕ) → ℕ → ℕ
 putAt bytes place n list j = cond (leb place j && ltb j (place + n)) (getD list (j - place) 0) (getD bytes j 0)
 
-pub put-in : (bytes list : List ℕ) (place n j : ℕ) → place ≤ j → j < place + n
+put-in : (bytes list : List ℕ) (place n j : ℕ) → place ≤ j → j < place + n
     → putAt bytes place n list j ≡ getD list (j - place) 0
 put-in bytes list place n j a h = rw (le-leb place j a) (rw (lt-ltb j (place + n) h) refl)
 
-pub put-below : (bytes list : List ℕ) (place n j : ℕ) → j < place → putAt bytes place n list j ≡ getD bytes j 0
+put-below : (bytes list : List ℕ) (place n j : ℕ) → j < place → putAt bytes place n list j ≡ getD bytes j 0
 put-below bytes list place n j h = rw (lt-leb place j h) refl
 
-pub put-above : (bytes list : List ℕ) (place n j : ℕ) → place + n ≤ j → putAt bytes place n list j ≡ getD bytes j 0
+put-above : (bytes list : List ℕ) (place n j : ℕ) → place + n ≤ j → putAt bytes place n list j ≡ getD bytes j 0
 put-above bytes list place n j h =
     rw (le-leb place j (omega arith)) (rw (le-ltb j (place + n) h) refl)
 
@@ -124,7 +125,7 @@ put-more bytes₀ bytes list place i h p j =
     (less-or-not j (place + i))
 
 -- a byte of bytes with a list put in
-pub list-put-at : (bytes list : List ℕ) (place j : ℕ) → j < length bytes
+list-put-at : (bytes list : List ℕ) (place j : ℕ) → j < length bytes
     → getD (listPut bytes place list) j 0 ≡ putAt bytes place listBytes list j
 unfolding listPut
 list-put-at bytes list place j h = getD-tab (length bytes) (putAt bytes place listBytes list) j 0 h
@@ -162,7 +163,6 @@ pub read-some : (bytes rule list : List ℕ) (number records signals time word :
     → record { rule = rule; records = records; list = list; signals = signals; phase = phase } ≡ stateIn bytes
 unfolding stateIn
 read-some bytes rule list number records signals time word phase n h r l t w p k s =
-    let e : number ≤ 3 = h in
     rw (le-ltb 3 (getD bytes phasePlace 0) (omega (arith, n))) cc
 
 -- bytes with a list put in are as long as before

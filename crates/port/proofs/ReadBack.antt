@@ -51,11 +51,11 @@ module _ (w : Watcher) where
       ∙ sym (written-at w (listPlace + i) (omega arith)))
 
   -- a number's bytes from a place on
-  number-back : (place n x : ℕ) → recordsPlace ≤ place → place + n ≤ stateBytes → x < 256 ^ n
+  number-back : (place n x : ℕ) → place + n ≤ stateBytes → x < 256 ^ n
       → ((k : ℕ) → k < n
       → digit x (place + k - place) ≡ byteAt w (place + k))
       → x ≡ little (written w) place n
-  number-back place n x a b h p =
+  number-back place n x b h p =
       sym
       (little-digits (written w) place n x
       (λ k l.
@@ -64,28 +64,28 @@ module _ (w : Watcher) where
 
   records-back : w .records < 2 ^ 64 → w .records ≡ little (written w) recordsPlace 8
   records-back h =
-      number-back recordsPlace 8 (w .records) (omega arith) (omega arith) h
+      number-back recordsPlace 8 (w .records) (omega arith) h
       (λ k l.
       number-records (w .records) (w .signals) time word phase (recordsPlace + k) (omega arith)
       ∙ byte-number w (recordsPlace + k) (omega arith))
 
   signals-back : w .signals < 2 ^ 64 → w .signals ≡ little (written w) signalsPlace 8
   signals-back h =
-      number-back signalsPlace 8 (w .signals) (omega arith) (omega arith) h
+      number-back signalsPlace 8 (w .signals) (omega arith) h
       (λ k l.
       number-signals (w .records) (w .signals) time word phase (signalsPlace + k) (omega arith) (omega arith)
       ∙ byte-number w (signalsPlace + k) (omega arith))
 
   time-back : time < 2 ^ 32 → time ≡ little (written w) timePlace 4
   time-back h =
-      number-back timePlace 4 time (omega arith) (omega arith) h
+      number-back timePlace 4 time (omega arith) h
       (λ k l.
       number-time (w .records) (w .signals) time word phase (timePlace + k) (omega arith) (omega arith)
       ∙ byte-number w (timePlace + k) (omega arith))
 
   word-back : word < 2 ^ 16 → word ≡ little (written w) wordPlace 2
   word-back h =
-      number-back wordPlace 2 word (omega arith) (omega arith) h
+      number-back wordPlace 2 word (omega arith) h
       (λ k l.
       number-word (w .records) (w .signals) time word phase (wordPlace + k) (omega arith) (omega arith)
       ∙ byte-number w (wordPlace + k) (omega arith))

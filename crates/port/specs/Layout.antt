@@ -1,10 +1,10 @@
 -- A state in 280 bytes: the rule, the signal list, how many records each has, the last record's time and signals, and
 -- the phase. Numbers have their lowest byte first.
 use mathlib.Core.Path.{_≡_}
-use mathlib.Core.Bool.{_&&_, cond}
+use mathlib.Core.Bool.{cond}
 use mathlib.Core.List.{List}
 use Prim.Native.Nat.{ℕ, zero, suc, _+_, _-_, _/_, _%_, _^_, _<_}
-use lib.Dec.{leb, ltb}
+use lib.Dec.{ltb}
 use lib.ListN.{length, getD}
 use Rattle.ground.specs.Fold.{tab}
 use Rattle.ground.specs.Bytes.{little}
@@ -82,12 +82,6 @@ byteAt w i =
     cond (ltb i listPlace) (getD (w .rule) i 0)
     (cond (ltb i recordsPlace) (getD (w .list) (i - listPlace) 0)
     (numberByte (w .records) (w .signals) (timeIn (w .phase)) (signalsIn (w .phase)) (phaseNumber (w .phase)) i))
-
--- bytes with a list put in from a place on
-unfoldable pub listPut : List ℕ → ℕ → List ℕ → List ℕ
-listPut bytes place list =
-    tab (length bytes)
-    (λ i. cond (leb place i && ltb i (place + listBytes)) (getD list (i - place) 0) (getD bytes i 0))
 
 -- a state in bytes
 unfoldable pub written : Watcher → List ℕ

@@ -1,4 +1,5 @@
 pub mod Codes
 pub mod Layout
+pub mod Steps
 pub mod Exports
 pub mod Whole

@@ -13,7 +13,8 @@ ghost use Rattle.watcher.specs.declared.state.Phase.the-variants.{Closed};
 ghost use Rattle.watcher.specs.Limits.{listBytes};
 ghost use Rattle.watcher.specs.Calls.{zeroState};
 ghost use Rattle.port.specs.Layout.{stateBytes, recordsPlace, digit, phaseNumber, timeIn, signalsIn};
-ghost use Rattle.port.specs.Layout.{numberByte, listPut, written, phaseWith, listAt, stateIn};
+ghost use Rattle.port.specs.Layout.{numberByte, written, phaseWith, listAt, stateIn};
+ghost use Rattle.port.specs.Steps.{listPut};
 
 // The bytes of a state.
 pub(crate) const STATE_BYTES: usize = 280;
