@@ -36,6 +36,16 @@ putIn-parameter m n p σ h =
     canonical n (putIn m n (parameter m p) σ) (σ p)
     (λ ρ. value-putIn m n (parameter m p) σ ρ ∙ value-parameter m p (λ j. value n (σ j) ρ) h)
 
+-- putting in goes through the exclusive or
+pub putIn-xor : (m n : ℕ) (f g : Form m) (σ : ℕ → Form n)
+    → putIn m n (xor m f g) σ ≡ xor n (putIn m n f σ) (putIn m n g σ)
+putIn-xor m n f g σ =
+    canonical n (putIn m n (xor m f g) σ) (xor n (putIn m n f σ) (putIn m n g σ))
+    (λ ρ.
+    value-putIn m n (xor m f g) σ ρ ∙ value-xor m f g (λ j. value n (σ j) ρ)
+    ∙ sym (value-xor n (putIn m n f σ) (putIn m n g σ) ρ
+    ∙ ap₂ _⊕_ (value-putIn m n f σ ρ) (value-putIn m n g σ ρ)))
+
 -- through the operations
 module _ (S : ℕ → Type 0) (m : ℕ) where
   pub depends-constant : (b : Bool) → DependsOn S m (constant m b)

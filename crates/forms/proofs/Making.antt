@@ -1,15 +1,16 @@
 -- Rows that are made: of one term, of constants, of parameters and of the exclusive or.
 -- Assumes nothing.
 use mathlib.Core.Path.{_≡_, refl, sym, ap, ap₂, _∙_, subst}
-use mathlib.Core.Bool.{Bool, true, false, cond}
+use mathlib.Core.Bool.{Bool, true, false, _&&_, cond, and-true, and-false}
 use mathlib.Core.Logic.{⊎-elim}
 use mathlib.Core.List.{List}
 use Prim.Native.Nat.{ℕ, zero, suc, _+_, _*_, _/_, _%_, _^_, _≤_, _<_}
 use native.Mathlib.Omega.{arith}
-use lib.Bits.{bitXor, xor-lt, xor-zero-l}
+use lib.Bits.{bitXor, xor-lt, xor-zero-l, xor-zero-r}
 use lib.Dec.{eqb}
 use lib.ListN.{length, getD, set, replicate}
 use lib.Pow.{pow-lt, pow-mono, pow-pos}
+use lib.Seq.{set-getD}
 use borrow.Author.Tests.{eq-eqb, ne-eqb, eqb-true, eqb-false}
 use Rattle.ground.specs.Fold.{_⊕_}
 use Rattle.ground.specs.Bits.{bit, bitAt, Words}
@@ -20,9 +21,11 @@ use Rattle.forms.specs.Form.{Form, constant, parameter, xor, has}
 use Rattle.forms.specs.Words.{bitOf, pack}
 use Rattle.forms.specs.Steps.{Alone}
 use Rattle.forms.proofs.Values.{parameter-none}
+use Rattle.forms.proofs.Ring.{xor-form-false}
 use Rattle.forms.proofs.Terms.{has-false, has-low, has-high, by-halves}
 use Rattle.forms.proofs.Document.{bitOf-low, bitOf-high}
-use Rattle.forms.proofs.Packing.{bitOf-xor, word-lt, word-bit, pack-by, pack-is, pack-false}
+use Rattle.forms.proofs.Packing.{bitOf-false, bitOf-xor, word-lt, word-bit, bit-pack, pack-words}
+use Rattle.forms.proofs.Packing.{pack-by, pack-is, pack-false}
 use Rattle.forms.proofs.Joining.{flip, flip-words, flip-bit}
 
 -- the code's store into zeros: the row of term k alone
@@ -103,6 +106,10 @@ bit-alone m f n h p k =
 pub bitOf-true : (m k : ℕ) → bitOf m (constant m true) k ≡ eqb 0 k
 bitOf-true m = bit-alone m (constant m true) 0 (pow-pos m) (has-true m)
 
+pub bitOf-constant : (m : ℕ) (b : Bool) (k : ℕ) → bitOf m (constant m b) k ≡ (eqb 0 k && b)
+bitOf-constant m true k = bitOf-true m k ∙ sym (and-true (eqb 0 k))
+bitOf-constant m false k = bitOf-false m k ∙ sym (and-false (eqb 0 k))
+
 pub bitOf-parameter : (m p k : ℕ) → p < m → bitOf m (parameter m p) k ≡ eqb (2 ^ p) k
 bitOf-parameter m p k h = bit-alone m (parameter m p) (2 ^ p) (pow-lt h) (λ i l. has-parameter m p i h l) k
 
@@ -137,3 +144,31 @@ xor-row m f g a b r ea eb long each =
     (λ i t h l.
     ap (λ x. bit x t) (each i h) ∙ bit-xor (getD a i 0) (getD b i 0) t
     ∙ ap₂ _⊕_ (word-bit m f a i t ea h l) (word-bit m g b i t eb h l) ∙ sym (bitOf-xor m f g (64 * i + t)))
+
+-- the code's store into the first word: true is added where w is odd
+pub negated-row : (m : ℕ) (f : Form m) (r : List ℕ) (w : ℕ) → r ≡ pack m f
+    → set r 0 (bitXor (getD r 0 0) (w % 2)) ≡ pack m (xor m f (constant m (bit w 0)))
+unfolding bit
+negated-row m f r w e = go (eqb (w / 2 ^ 0 % 2) 1) refl
+  where
+    words : Words 64 r
+    words = subst (λ x. Words 64 x) (sym e) (pack-words m f)
+
+    added : set r 0 (bitXor (getD r 0 0) 1) ≡ pack m (xor m f (constant m true))
+    added =
+        pack-is m (xor m f (constant m true)) (flip r 0) (flip-words r 0 (omega arith) words)
+        (λ k l.
+        flip-bit r 0 k (omega arith) words
+        ∙ ap₂ _⊕_ (ap (λ x. bitAt x k) e ∙ bit-pack m f k l) (sym (bitOf-true m k))
+        ∙ sym (bitOf-xor m f (constant m true) k))
+
+    go : (b : Bool) → eqb (w / 2 ^ 0 % 2) 1 ≡ b
+        → set r 0 (bitXor (getD r 0 0) (w % 2)) ≡ pack m (xor m f (constant m (eqb (w / 2 ^ 0 % 2) 1)))
+    go true q =
+        let one : w % 2 ≡ 1 = omega (arith, eqb-true (w / 2 ^ 0 % 2) 1 q) in
+        ap (λ x. set r 0 (bitXor (getD r 0 0) x)) one ∙ added ∙ ap (λ b. pack m (xor m f (constant m b))) (sym q)
+    go false q =
+        let odd : w / 2 ^ 0 % 2 ≡ 1 → ⊥ = eqb-false (w / 2 ^ 0 % 2) 1 q in
+        let none : w % 2 ≡ 0 = omega arith in
+        ap (λ x. set r 0 (bitXor (getD r 0 0) x)) none ∙ ap (set r 0) (xor-zero-r (getD r 0 0)) ∙ set-getD r 0 0
+        ∙ e ∙ ap (pack m) (sym (xor-form-false m f)) ∙ ap (λ b. pack m (xor m f (constant m b))) (sym q)

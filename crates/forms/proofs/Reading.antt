@@ -11,24 +11,25 @@ use native.Mathlib.Omega.{arith}
 use lib.Bits.{bitOr}
 use lib.Dec.{eqb, ltb}
 use lib.ListN.{length}
-use lib.Pow.{pow-mono}
+use lib.Pow.{pow-mono, pow-pos}
 use borrow.Author.Tests.{lt-ltb, le-ltb, eq-eqb, ne-eqb, eqb-true, eqb-false}
 use Rattle.ground.specs.Fold.{_⊕_, fold, every, some}
 use Rattle.ground.specs.Bits.{bit, ofBits, bitAt, Words}
-use Rattle.ground.proofs.Xor.{⊕-self}
+use Rattle.ground.proofs.Xor.{⊕-false, ⊕-self}
 use Rattle.ground.proofs.Folds.{less-or-not, fold-cong, fold-skip, every-all, every-not, some-none}
 use Rattle.ground.proofs.Bits.{bit-or, bit-zero}
 use Rattle.ground.proofs.Numbers.{same-bits, ofBits-lt, bit-ofBits}
-use Rattle.forms.specs.Form.{Form, constant, parameter, has, names, same}
+use Rattle.forms.specs.Form.{Form, constant, parameter, xor, has, names, same}
 use Rattle.forms.specs.Words.{bitOf, pack, fits}
 use Rattle.forms.specs.Rows.{whichConstant}
 use Rattle.forms.specs.Steps.{Next, Only}
 use Rattle.forms.specs.declared.rows.Truth.the-variants.{True, False, Open}
 use Rattle.forms.proofs.Values.{pairs}
 use Rattle.forms.proofs.Document.{bitOf-low, bitOf-high}
-use Rattle.forms.proofs.Packing.{bitOf-false, room, term-room, pack-words, bit-pack, pack-is, pack-inj}
+use Rattle.forms.proofs.Packing.{bitOf-false, bitOf-xor, room, term-room, pack-words, bit-pack}
+use Rattle.forms.proofs.Packing.{pack-is, pack-inj}
 use Rattle.forms.proofs.Joining.{union-lt}
-use Rattle.forms.proofs.Making.{bitOf-true, true-row, parameter-row}
+use Rattle.forms.proofs.Making.{bitOf-true, bitOf-constant, bitOf-parameter, true-row}
 
 -- the test for the same form is right
 pub same-refl : (m : ℕ) (f : Form m) → same m f f ≡ true
@@ -124,16 +125,33 @@ module _ (m : ℕ) (f : Form m) (row : List ℕ) (few : m ≤ 12) (e : row ≡ p
       pack-inj m f (constant m false) few
       (sym e ∙ pack-is m (constant m false) row row-words (λ l h. p l h ∙ sym (bitOf-false m l)))
 
-  -- the term of p alone
-  pub read-parameter : (p : ℕ) → p < 12 → Only row (2 ^ p) → (p < m) × (f ≡ parameter m p)
+  -- the term of p alone, but perhaps for the empty one
+  pub read-parameter : (p : ℕ) → p < 12 → Only row (2 ^ p)
+      → (p < m) × (f ≡ xor m (parameter m p) (constant m (bitAt row 0)))
   read-parameter p h only = (
     below,
-    pack-inj m f (parameter m p) few
-        (sym e ∙ parameter-row m p row below (record { words = row-words; bits = only })),
+    pack-inj m f g few
+        (sym e
+        ∙ pack-is m g row row-words
+        (λ l b.
+        bits l b
+        ∙ sym (bitOf-xor m (parameter m p) (constant m (bitAt row 0)) l
+        ∙ ap₂ _⊕_ (bitOf-parameter m p l below) (bitOf-constant m (bitAt row 0) l)))),
   )
     where
+      g : Form m
+      g = xor m (parameter m p) (constant m (bitAt row 0))
+
       place : 2 ^ p < 4096
       place = term-room p h
+
+      bits : (l : ℕ) → l < 4096 → bitAt row l ≡ eqb (2 ^ p) l ⊕ (eqb 0 l && bitAt row 0)
+      bits zero b =
+          sym (ap₂ (λ x y. x ⊕ (y && bitAt row 0)) (ne-eqb (2 ^ p) 0 (λ z. omega (arith, pow-pos p))) (eq-eqb 0 0 refl))
+      bits (suc l) b =
+          only (suc l) (omega arith) b
+          ∙ sym (ap (λ y. eqb (2 ^ p) (suc l) ⊕ (y && bitAt row 0)) (ne-eqb 0 (suc l) (λ z. omega arith))
+          ∙ ⊕-false (eqb (2 ^ p) (suc l)))
 
       below : p < m
       below =
@@ -142,7 +160,7 @@ module _ (m : ℕ) (f : Form m) (row : List ℕ) (few : m ≤ 12) (e : row ≡ p
           absurd
           (false≢true
           (sym (row-bit (2 ^ p) place ∙ bitOf-high m f (2 ^ p) (pow-mono l))
-          ∙ only (2 ^ p) place ∙ eq-eqb (2 ^ p) (2 ^ p) refl)))
+          ∙ only (2 ^ p) (pow-pos p) place ∙ eq-eqb (2 ^ p) (2 ^ p) refl)))
           (less-or-not p m)
 
   -- a term that is not the empty one

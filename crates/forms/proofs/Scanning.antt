@@ -7,7 +7,7 @@ use mathlib.Core.List.{List}
 use Prim.Native.Nat.{ℕ, _+_, _-_, _*_, _/_, _%_, _^_, _≤_, _<_}
 use native.Mathlib.Omega.{arith}
 use lib.ListN.{getD}
-use lib.Pow.{pow-lt}
+use lib.Pow.{pow-lt, pow-pos}
 use borrow.Author.Tests.{eq-eqb, ne-eqb, eqb-true}
 use Rattle.ground.specs.Bits.{bit, bitAt}
 use Rattle.ground.proofs.Folds.{less-or-not}
@@ -58,12 +58,12 @@ power-inj p q e =
     (λ l. ⊎-elim (λ u. let z : ⊥ = omega (arith, pow-lt u) in absurd z) (λ u. omega arith) (less-or-not q p))
     (less-or-not p q)
 
--- the first term and the second
-module _ (row : List ℕ) (k r : ℕ) (first : Next row 0 4096 k) (second : Next row (k + 1) 4096 r) where
+-- the first term from 1 on, and the second
+module _ (row : List ℕ) (k r : ℕ) (first : Next row 1 4096 k) (second : Next row (k + 1) 4096 r) where
   -- there is no second: the first is the only one
   first-only : 4096 ≤ r → k < 4096 → Only row k
-  first-only end h l b =
-      ⊎-elim (λ s. first .none l (omega arith) s ∙ sym (ne-eqb k l (λ q. omega arith)))
+  first-only end h l a b =
+      ⊎-elim (λ s. first .none l a s ∙ sym (ne-eqb k l (λ q. omega arith)))
       (λ s.
       ⊎-elim (λ u. second .none l (omega arith) (omega arith) ∙ sym (ne-eqb k l (λ q. omega arith)))
       (λ u. let q : k ≡ l = omega arith in ap (bitAt row) (sym q) ∙ first .here h ∙ sym (eq-eqb k l q))
@@ -71,34 +71,34 @@ module _ (row : List ℕ) (k r : ℕ) (first : Next row 0 4096 k) (second : Next
       (less-or-not l k)
 
   -- the only one is the first, and there is no second
-  only-first : (t : ℕ) → t < 4096 → Only row t → (k ≡ t) × (4096 ≤ r)
-  only-first t h only = (sym at, ⊎-elim (λ l. absurd (two l)) (λ l. l) (less-or-not r 4096))
+  only-first : (t : ℕ) → 1 ≤ t → t < 4096 → Only row t → (k ≡ t) × (4096 ≤ r)
+  only-first t a h only = (sym at, ⊎-elim (λ l. absurd (two l)) (λ l. l) (less-or-not r 4096))
     where
-      found : (l : ℕ) → l < 4096 → bitAt row l ≡ true → t ≡ l
-      found l b q = eqb-true t l (sym (only l b) ∙ q)
+      found : (l : ℕ) → 1 ≤ l → l < 4096 → bitAt row l ≡ true → t ≡ l
+      found l s b q = eqb-true t l (sym (only l s b) ∙ q)
 
       reached : k ≤ t
       reached =
           ⊎-elim
-          (λ l. absurd (false≢true (sym (first .none t (omega arith) l) ∙ only t h ∙ eq-eqb t t refl)))
+          (λ l. absurd (false≢true (sym (first .none t a l) ∙ only t a h ∙ eq-eqb t t refl)))
           (λ l. l) (less-or-not t k)
 
       at : t ≡ k
-      at = let l : k < 4096 = omega (arith, reached) in found k l (first .here l)
+      at = let l : k < 4096 = omega (arith, reached) in found k (first .low (omega arith)) l (first .here l)
 
       two : r < 4096 → ⊥
       two l =
-          let a : k + 1 ≤ r = second .low (omega (arith, reached)) in
-          let q : t ≡ r = found r l (second .here l) in
+          let s : k + 1 ≤ r = second .low (omega (arith, reached)) in
+          let q : t ≡ r = found r (omega arith) l (second .here l) in
           omega (arith, at)
 
-  -- so the row is that of a parameter, or of none
+  -- so the row is that of a parameter, negated or not, or of none
   pub lone-here : (p : ℕ) → p < 12 → 4096 ≤ r → k ≡ 2 ^ p → Lone row p
   lone-here p h end e = record {
     high = omega arith;
     here = λ _. subst (Only row) e (first-only end (subst (λ x. x < 4096) (sym e) (term-room p h)));
     all = λ q l only.
-        power-inj p q (sym e ∙ only-first (2 ^ q) (term-room q l) only .0);
+        power-inj p q (sym e ∙ only-first (2 ^ q) (pow-pos q) (term-room q l) only .0);
   }
 
   pub lone-none : ((p : ℕ) → p < 12 → k ≡ 2 ^ p → r < 4096) → Lone row 12
@@ -106,7 +106,7 @@ module _ (row : List ℕ) (k r : ℕ) (first : Next row 0 4096 k) (second : Next
     high = omega arith;
     here = λ h. let z : ⊥ = omega arith in absurd z;
     all = λ p h only.
-        let both = only-first (2 ^ p) (term-room p h) only in
+        let both = only-first (2 ^ p) (pow-pos p) (term-room p h) only in
         let z : ⊥ = omega (arith, other p h (both .0), both .1) in
         absurd z;
   }

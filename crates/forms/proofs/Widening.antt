@@ -8,20 +8,22 @@ use Prim.Native.Nat.{ℕ, _+_, _%_, _≤_, _<_}
 use native.Mathlib.Nat.{add-zero, le-trans}
 use native.Mathlib.Omega.{arith}
 use borrow.Author.Count.{below-more}
-use lib.ListN.{length, getD, replicate, length-map, List·getD-map, List·getD-eq-default}
+use lib.Bits.{bitXor}
+use lib.ListN.{length, getD, set, replicate, length-map, List·getD-map, List·getD-eq-default}
 use Rattle.ground.specs.Bits.{bit, bitAt}
 use Rattle.ground.proofs.Bits.{bit-low}
-use Rattle.forms.specs.Form.{Form, constant, putIn, seen, value, truth}
+use Rattle.forms.specs.Form.{Form, constant, parameter, xor, putIn, seen, value, truth}
 use Rattle.forms.specs.Words.{most, pack, unpack, ofTerms}
 use Rattle.forms.specs.Area.{rowAt, putRows, formIn, Holds}
 use Rattle.forms.specs.Rows.{WithRows}
 use Rattle.forms.specs.Steps.{Next, Lone, Tables, PutTerms, RowOf, TablesOf}
 use Rattle.forms.proofs.Values.{value-agree, value-putIn, canonical}
-use Rattle.forms.proofs.Depends.{putIn-constant, putIn-parameter}
+use Rattle.forms.proofs.Depends.{putIn-constant, putIn-parameter, putIn-xor}
 use Rattle.forms.proofs.Truths.{has-truth, truth-truth}
 use Rattle.forms.proofs.Document.{bitOf-low}
 use Rattle.forms.proofs.Packing.{pack-words, bit-pack, unpack-pack, pack-false}
 use Rattle.forms.proofs.Packing.{value-seen, pack-seen, most-is, most-few, most-wide}
+use Rattle.forms.proofs.Making.{negated-row}
 use Rattle.forms.proofs.Reading.{read-constant, read-parameter}
 use Rattle.forms.proofs.Areas.{row-put, row-kept, row-past}
 
@@ -122,14 +124,17 @@ put-constant row ws base count k next end m f rows few e holds =
     ∙ ap (pack m)
     (same ∙ sym (ap (λ g. putIn m m g (formIn m rows)) same ∙ putIn-constant m m (bitAt row 0) (formIn m rows)))
 
--- a parameter is the row put in for it
+-- a parameter is the row put in for it, and its negation that row's
 pub put-lone : (row ws r : List ℕ) (base count p : ℕ) → Lone row p → p < 12 → RowOf ws base count p r
-    → WithRows row ws base count r
+    → WithRows row ws base count (set r 0 (bitXor (getD r 0 0) (getD row 0 0 % 2)))
+unfolding bitAt
 put-lone row ws r base count p lone h at m f rows few e holds =
+    let σ : ℕ → Form m = formIn m rows in
     let same = read-parameter m f row few e p h (lone .here h) in
-    at m rows holds
+    negated-row m (σ p) r (getD row 0 0) (at m rows holds)
     ∙ ap (pack m)
-    (sym (ap (λ g. putIn m m g (formIn m rows)) (same .1) ∙ putIn-parameter m m p (formIn m rows) (same .0)))
+    (sym (ap (λ g. putIn m m g σ) (same .1) ∙ putIn-xor m m (parameter m p) (constant m (bitAt row 0)) σ
+    ∙ ap₂ (xor m) (putIn-parameter m m p σ (same .0)) (putIn-constant m m (bitAt row 0) σ)))
 
 -- a bit of the truth values is the form's value
 pub value-here : (row t : List ℕ) (s : ℕ) → ((f : Form most) → row ≡ pack most f → t ≡ pack most (truth most f))

@@ -18,11 +18,11 @@ pub record Next (row : List ℕ) (from to r : ℕ) : Type 0 where
   pub none : (k : ℕ) → from ≤ k → k < r → bitAt row k ≡ false
   pub here : r < to → bitAt row r ≡ true
 
--- term k is the row's only one
+-- term k is the row's only one, but perhaps for the empty one
 abbrev pub Only : List ℕ → ℕ → Type 0
-Only row k = (l : ℕ) → l < 4096 → bitAt row l ≡ eqb k l
+Only row k = (l : ℕ) → 1 ≤ l → l < 4096 → bitAt row l ≡ eqb k l
 
--- r is the parameter that the row's form is, or 12 where it is none
+-- the row's form is parameter r, or parameter r xor true; r is 12 where it is neither of any parameter
 pub record Lone (row : List ℕ) (r : ℕ) : Type 0 where
   pub high : r ≤ 12
   pub here : r < 12 → Only row (2 ^ r)
@@ -36,7 +36,7 @@ pub record Joined (old b : List ℕ) (i : ℕ) (r : List ℕ) : Type 0 where
 -- r is the row of term k alone
 pub record Alone (k : ℕ) (r : List ℕ) : Type 0 where
   pub words : Words 64 r
-  pub bits : Only r k
+  pub bits : (l : ℕ) → l < 4096 → bitAt r l ≡ eqb k l
 
 -- masks of the bits of a word whose number lacks parameter p, for the six parameters inside a word
 abbrev pub masks : List ℕ

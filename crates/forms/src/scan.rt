@@ -22,11 +22,11 @@ pub(crate) fn next_term(row: &[u64; 64], from: usize, to: usize) -> usize
     to
 }
 
-// The parameter that the row's form is, or 12 where it is none.
+// The parameter that the row's form is, or is the negation of; 12 where there is none.
 pub(crate) fn lone(row: &[u64; 64]) -> usize
     ensures { λ r. ⌜ Lone (now (row .entry)) r ⌝ }
 {
-    let k = next_term(row, 0, 4096);
+    let k = next_term(row, 1, 4096);
     if next_term(row, k + 1, 4096) < 4096 {
         return 12;
     }

@@ -138,13 +138,15 @@ fn put_by_values(row: &[u64; 64], area: &[u64], base: usize, count: usize) -> [u
 pub fn put_in(row: [u64; 64], area: &[u64], base: usize, count: usize) -> [u64; 64]
     ensures { λ r. ⌜ WithRows row (now (area .entry)) base count r ⌝ }
 {
-    // A constant stays, and a parameter is the row put in for it: most calls need no truth values.
+    // A constant stays, and a parameter is the row put in for it, negated or not: most calls need no truth values.
     if next_term(&row, 1, 4096) == 4096 {
         return row;
     }
     let p = lone(&row);
     if p < 12 {
-        return row_at(area, base, count, p);
+        let mut r = row_at(area, base, count, p);
+        r[0] = r[0] ^ (row[0] % 2);
+        return r;
     }
     put_by_values(&row, area, base, count)
 }

@@ -1,4 +1,4 @@
--- `put_in` leaves a constant, takes the row of a parameter, and else goes by truth values.
+-- `put_in` leaves a constant, takes the row of a parameter, negated or not, and else goes by truth values.
 -- Assumes nothing.
 use borrow.Author.Needs.{needs}
 use Rattle.forms.proofs.Widening.{put-constant, put-lone}
@@ -16,6 +16,15 @@ lone-requires c κs = search needs
 
 row-at-requires : tie.Need-row-at-requires
 row-at-requires c κs = search needs
+
+array-read-r : tie.Need-array-read-r
+array-read-r c = search needs
+
+array-read-r-2 : tie.Need-array-read-r-2
+array-read-r-2 c = search needs
+
+array-write-r : tie.Need-array-write-r
+array-write-r c = search needs
 
 returns-2 : tie.Need-returns-2
 returns-2 c =
@@ -35,6 +44,9 @@ put-in-spec =
     returns
     lone-requires
     row-at-requires
+    array-read-r
+    array-read-r-2
+    array-write-r
     returns-2
     put-by-values-requires
     returns-3)
