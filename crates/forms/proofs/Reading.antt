@@ -147,7 +147,8 @@ module _ (m : ℕ) (f : Form m) (row : List ℕ) (few : m ≤ 12) (e : row ≡ p
 
       bits : (l : ℕ) → l < 4096 → bitAt row l ≡ eqb (2 ^ p) l ⊕ (eqb 0 l && bitAt row 0)
       bits zero b =
-          sym (ap₂ (λ x y. x ⊕ (y && bitAt row 0)) (ne-eqb (2 ^ p) 0 (λ z. omega (arith, pow-pos p))) (eq-eqb 0 0 refl))
+          let other : eqb (2 ^ p) 0 ≡ false = ne-eqb (2 ^ p) 0 (λ z. omega (arith, pow-pos p)) in
+          sym (ap₂ (λ x y. x ⊕ (y && bitAt row 0)) other (eq-eqb 0 0 refl))
       bits (suc l) b =
           only (suc l) (omega arith) b
           ∙ sym (ap (λ y. eqb (2 ^ p) (suc l) ⊕ (y && bitAt row 0)) (ne-eqb 0 (suc l) (λ z. omega arith))

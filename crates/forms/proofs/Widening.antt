@@ -1,25 +1,28 @@
 -- Rows of an area put into a form: over the most parameters, and so over fewer.
 -- Assumes nothing.
 use mathlib.Core.Path.{_≡_, refl, sym, ap, ap₂, _∙_, subst}
-use mathlib.Core.Bool.{false}
-use mathlib.Core.Logic.{inl}
+use mathlib.Core.Bool.{true, false, cond, false≢true}
+use mathlib.Core.Logic.{inl, ⊎-elim}
 use mathlib.Core.List.{List, map}
-use Prim.Native.Nat.{ℕ, _+_, _%_, _≤_, _<_}
+use Prim.Native.Nat.{ℕ, _+_, _/_, _%_, _^_, _≤_, _<_}
 use native.Mathlib.Nat.{add-zero, le-trans}
 use native.Mathlib.Omega.{arith}
 use borrow.Author.Count.{below-more}
 use lib.Bits.{bitXor}
 use lib.ListN.{length, getD, set, replicate, length-map, List·getD-map, List·getD-eq-default}
-use Rattle.ground.specs.Bits.{bit, bitAt}
-use Rattle.ground.proofs.Bits.{bit-low}
-use Rattle.forms.specs.Form.{Form, constant, parameter, xor, putIn, seen, value, truth}
+use Rattle.ground.specs.Bits.{bit, ofBits, bitAt}
+use Rattle.ground.proofs.Folds.{less-or-not}
+use Rattle.ground.proofs.Bits.{bit-true, bit-false, bit-low}
+use Rattle.ground.proofs.Numbers.{bit-ofBits}
+use Rattle.forms.specs.Form.{Form, constant, parameter, xor, putIn, seen, value, names, truth}
 use Rattle.forms.specs.Words.{most, pack, unpack, ofTerms}
 use Rattle.forms.specs.Area.{rowAt, putRows, formIn, Holds}
-use Rattle.forms.specs.Rows.{WithRows}
-use Rattle.forms.specs.Steps.{Next, Lone, Tables, PutTerms, RowOf, TablesOf}
+use Rattle.forms.specs.Rows.{OfForm, WithRows}
+use Rattle.forms.specs.Steps.{Next, Lone, Tables, PutTerms, RowOf, onlyNamed, TableOf, TablesOf}
 use Rattle.forms.proofs.Values.{value-agree, value-putIn, canonical}
-use Rattle.forms.proofs.Depends.{putIn-constant, putIn-parameter, putIn-xor}
-use Rattle.forms.proofs.Truths.{has-truth, truth-truth}
+use Rattle.forms.proofs.Depends.{putIn-constant, putIn-parameter, putIn-xor, putIn-same}
+use Rattle.forms.proofs.Depends.{depends-names, names-depends}
+use Rattle.forms.proofs.Truths.{has-truth, truth-false, truth-truth}
 use Rattle.forms.proofs.Document.{bitOf-low}
 use Rattle.forms.proofs.Packing.{pack-words, bit-pack, unpack-pack, pack-false}
 use Rattle.forms.proofs.Packing.{value-seen, pack-seen, most-is, most-few, most-wide}
@@ -41,6 +44,42 @@ pub row-here : (ws : List ℕ) (base count j : ℕ) (r : List ℕ) → j < count
     → RowOf ws base count j r
 row-here ws base count j r h e m rows holds = e ∙ holds .row j h
 
+-- the table of a row that is not named, and of one that is
+pub table-none : (ws : List ℕ) (base count named j : ℕ) → named / 2 ^ j % 2 ≡ 0
+    → TableOf ws base count named j (replicate 64 0)
+unfolding onlyNamed
+table-none ws base count named j h rows holds =
+    let even : bit named j ≡ false = bit-false named j (λ e. omega arith) in
+    pack-false most
+    ∙ ap (pack most) (sym (truth-false most)
+    ∙ ap (λ b. truth most (cond b (formIn most rows j) (constant most false))) (sym even))
+
+pub table-here : (ws row r : List ℕ) (base count named j : ℕ) → (named / 2 ^ j % 2 ≡ 0 → ⊥) → RowOf ws base count j row
+    → ((f : Form most) → row ≡ pack most f → r ≡ pack most (truth most f)) → TableOf ws base count named j r
+unfolding onlyNamed
+table-here ws row r base count named j h at made rows holds =
+    let odd : bit named j ≡ true = bit-true named j (omega arith) in
+    made (formIn most rows j) (at most rows holds)
+    ∙ ap (λ b. pack most (truth most (cond b (formIn most rows j) (constant most false)))) (sym odd)
+
+-- what is put in for a parameter that the form does not name does not matter
+named-enough : (m : ℕ) (f : Form m) (named : ℕ) (σ : ℕ → Form most) → m ≤ 12 → named ≡ ofBits 12 (names m f)
+    → putIn m most f (onlyNamed named σ) ≡ putIn m most f σ
+unfolding onlyNamed
+named-enough m f named σ few e =
+    putIn-same (λ j. names m f j ≡ true) m most f _ σ (depends-names m f)
+    (λ j s.
+    ap (λ b. cond b (σ j) (constant most false)) (ap (λ x. bit x j) e ∙ bit-ofBits 12 (names m f) j (below j s) ∙ s))
+  where
+    below : (j : ℕ) → names m f j ≡ true → j < 12
+    below j s =
+        ⊎-elim (λ l. l)
+        (λ l.
+        absurd
+        (false≢true
+        (sym (names-depends (λ i. i < m) m f (value-agree m f) j (λ b. let z : ⊥ = omega arith in z)) ∙ s)))
+        (less-or-not j 12)
+
 -- one table more
 pub tables-more : (ts ts′ t : List ℕ) (j : ℕ) (σ : ℕ → Form most) → length ts ≡ 768 → j < 12
     → t ≡ pack most (truth most (σ j)) → ts′ ≡ putRows ts j 1 (λ _. t) → Tables ts j σ → Tables ts′ (j + 1) σ
@@ -51,25 +90,29 @@ tables-more ts ts′ t j σ long h e put sofar =
     (ap₂ rowAt put (sym (add-zero j)) ∙ row-put ts j 1 (λ _. t) 0 (omega arith) (omega arith) words ∙ e)
 
 -- over the most parameters
-put-most : (row v r ts ws : List ℕ) (base count : ℕ) → TablesOf ws base count ts → PutTerms row ts 12 0 v
+put-most : (row v r ts ws : List ℕ) (base count named : ℕ) → OfForm (λ m f. ofBits 12 (names m f)) row named
+    → TablesOf ws base count named ts → PutTerms row ts 12 0 v
     → ((f : Form most) → v ≡ pack most f → r ≡ pack most (truth most f)) → (f : Form most) (rows : List (Form most))
     → row ≡ pack most f → Holds most ws base count rows → r ≡ pack most (putIn most most f (formIn most rows))
 unfolding unpack
-put-most row v r ts ws base count tables put back f rows e holds =
-    back (truth most g) (made ∙ ap (λ x. pack most (truth most (putIn most most x (formIn most rows)))) whole)
-    ∙ ap (pack most) (truth-truth most g)
+put-most row v r ts ws base count named all tables put back f rows e holds =
+    back (truth most g) (made ∙ ap (λ x. pack most (truth most (putIn most most x σ))) whole)
+    ∙ ap (pack most)
+    (truth-truth most g ∙ named-enough most f named (formIn most rows) most-few (all most f most-few e))
   where
+    σ : ℕ → Form most
+    σ = onlyNamed named (formIn most rows)
+
     g : Form most
-    g = putIn most most f (formIn most rows)
+    g = putIn most most f σ
 
     whole : ofTerms most (bitAt row) 0 ≡ f
     whole = ap (unpack most) e ∙ unpack-pack most f most-few
 
-    made : v ≡ pack most (truth most (putIn most most (ofTerms most (bitAt row) 0) (formIn most rows)))
+    made : v ≡ pack most (truth most (putIn most most (ofTerms most (bitAt row) 0) σ))
     made =
-        subst (λ p. v ≡ pack most (truth most (putIn p most (ofTerms p (bitAt row) 0) (formIn most rows))))
-        (sym most-is)
-        (put (formIn most rows) (tables rows holds))
+        subst (λ p. v ≡ pack most (truth most (putIn p most (ofTerms p (bitAt row) 0) σ))) (sym most-is)
+        (put σ (tables rows holds))
 
 -- a list of forms over m, seen over the most
 module _ (m : ℕ) (few : m ≤ 12) where
@@ -107,10 +150,11 @@ module _ (m : ℕ) (few : m ≤ 12) where
       ∙ sym (value-seen m most (putIn m m f (formIn m rows)) ρ fits ∙ value-putIn m m f (formIn m rows) ρ))
 
 -- and so over fewer
-pub put-rows : (row v r ts ws : List ℕ) (base count : ℕ) → TablesOf ws base count ts → PutTerms row ts 12 0 v
+pub put-rows : (row v r ts ws : List ℕ) (base count named : ℕ) → OfForm (λ m f. ofBits 12 (names m f)) row named
+    → TablesOf ws base count named ts → PutTerms row ts 12 0 v
     → ((f : Form most) → v ≡ pack most f → r ≡ pack most (truth most f)) → WithRows row ws base count r
-put-rows row v r ts ws base count tables put back m f rows few e holds =
-    put-most row v r ts ws base count tables put back (seen m most f) (wider m few rows)
+put-rows row v r ts ws base count named all tables put back m f rows few e holds =
+    put-most row v r ts ws base count named all tables put back (seen m most f) (wider m few rows)
     (e ∙ pack-seen m most f (fits m few)) (wider-holds m few ws base count rows holds)
     ∙ ap (pack most) (putIn-wider m few f rows) ∙ sym (pack-seen m most (putIn m m f (formIn m rows)) (fits m few))
 

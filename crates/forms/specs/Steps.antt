@@ -1,13 +1,13 @@
 -- What the functions inside the crate say. Nobody outside has to believe it.
 use mathlib.Core.Path.{_≡_}
-use mathlib.Core.Bool.{Bool, true, false, _&&_}
+use mathlib.Core.Bool.{Bool, true, false, _&&_, cond}
 use mathlib.Core.List.{List, [], _∷_}
 use Prim.Native.Nat.{ℕ, _+_, _-_, _*_, _^_, _≤_, _<_}
 use lib.Bits.{bitOr}
 use lib.Dec.{eqb}
 use Rattle.ground.specs.Fold.{_⊕_, parity}
 use Rattle.ground.specs.Bits.{bit, bitAt, Words}
-use Rattle.forms.specs.Form.{Form, xor, putIn, truth, each}
+use Rattle.forms.specs.Form.{Form, constant, xor, putIn, truth, each}
 use Rattle.forms.specs.Words.{most, pack, ofTerms}
 use Rattle.forms.specs.Area.{rowAt, formIn, Holds}
 
@@ -75,7 +75,17 @@ PutTerms row ts p k r =
 abbrev pub RowOf : List ℕ → ℕ → ℕ → ℕ → List ℕ → Type 0
 RowOf ws base count j r = (m : ℕ) (rows : List (Form m)) → Holds m ws base count rows → r ≡ pack m (formIn m rows j)
 
--- ts holds the truth values of the first twelve forms of those rows
-abbrev pub TablesOf : List ℕ → ℕ → ℕ → List ℕ → Type 0
-TablesOf ws base count ts =
-    (rows : List (Form most)) → Holds most ws base count rows → Tables ts 12 (formIn most rows)
+-- the forms whose numbers are bits of the mask, and false for the others
+unfoldable pub onlyNamed : ℕ → (ℕ → Form most) → ℕ → Form most
+onlyNamed named σ j = cond (bit named j) (σ j) (constant most false)
+
+-- r holds the truth values of form j of those rows, or of false where it is not named
+abbrev pub TableOf : List ℕ → ℕ → ℕ → ℕ → ℕ → List ℕ → Type 0
+TableOf ws base count named j r =
+    (rows : List (Form most)) → Holds most ws base count rows
+    → r ≡ pack most (truth most (onlyNamed named (formIn most rows) j))
+
+-- ts holds the truth values of the first twelve forms of those rows, and of false for those that are not named
+abbrev pub TablesOf : List ℕ → ℕ → ℕ → ℕ → List ℕ → Type 0
+TablesOf ws base count named ts =
+    (rows : List (Form most)) → Holds most ws base count rows → Tables ts 12 (onlyNamed named (formIn most rows))

@@ -1,6 +1,7 @@
 // The truth values of a row, and putting rows in by them.
 use crate::area::load;
 use crate::area::store;
+use crate::rows::names;
 use crate::scan::lone;
 use crate::scan::next_term;
 ghost use mathlib.Core.Path.{_≡_};
@@ -10,7 +11,7 @@ ghost use Rattle.forms.specs.Form.{Form, truth, value as valueOf};
 ghost use Rattle.forms.specs.Words.{most, pack};
 ghost use Rattle.forms.specs.Area.{rowAt};
 ghost use Rattle.forms.specs.Rows.{OfForm, WithRows};
-ghost use Rattle.forms.specs.Steps.{PassedWord, Passed, Mixed, PutTerms, RowOf, TablesOf};
+ghost use Rattle.forms.specs.Steps.{PassedWord, Passed, Mixed, PutTerms, RowOf, TableOf, TablesOf};
 
 // The bits of a word whose number lacks parameter p.
 const MASKS: [u64; 6] = [
@@ -113,24 +114,35 @@ fn row_at(area: &[u64], base: usize, count: usize, j: usize) -> [u64; 64]
     load(area, base + j)
 }
 
-// The truth values of the first twelve of the count rows from base on, and of false behind them.
-fn tables(area: &[u64], base: usize, count: usize) -> [u64; 768]
-    ensures { λ r. ⌜ TablesOf (now (area .entry)) base count r ⌝ }
+// The truth values of row j of the count rows from base on, and of false where bit j of the mask is not set.
+fn table_at(area: &[u64], base: usize, count: usize, named: usize, j: usize) -> [u64; 64]
+    requires { ⌜ j < 12 ⌝ }
+    ensures { λ r. ⌜ TableOf (now (area .entry)) base count named j r ⌝ }
+{
+    if (named >> j) % 2 == 0 {
+        return [0u64; 64];
+    }
+    truth_of(row_at(area, base, count, j))
+}
+
+// The truth values of the first twelve of the count rows from base on, and of false for those that are not named.
+fn tables(area: &[u64], base: usize, count: usize, named: usize) -> [u64; 768]
+    ensures { λ r. ⌜ TablesOf (now (area .entry)) base count named r ⌝ }
 {
     let mut ts = [0u64; 768];
     for j in 0..12 {
-        let t = truth_of(row_at(area, base, count, j));
+        let t = table_at(area, base, count, named, j);
         store(&mut ts, j, t);
     }
     ts
 }
 
-// What `put_in` makes, by truth values, whatever the row's form is.
-fn put_by_values(row: &[u64; 64], area: &[u64], base: usize, count: usize) -> [u64; 64]
-    ensures { λ r. ⌜ WithRows (now (row .entry)) (now (area .entry)) base count r ⌝ }
+// What `put_in` makes, by truth values, whatever the row's form is: only the rows that it names matter.
+fn put_by_values(row: [u64; 64], area: &[u64], base: usize, count: usize) -> [u64; 64]
+    ensures { λ r. ⌜ WithRows row (now (area .entry)) base count r ⌝ }
 {
-    let ts = tables(area, base, count);
-    let v = put_terms(row, &ts, 12, 0);
+    let ts = tables(area, base, count, names(row));
+    let v = put_terms(&row, &ts, 12, 0);
     truth_of(v)
 }
 
@@ -148,7 +160,7 @@ pub fn put_in(row: [u64; 64], area: &[u64], base: usize, count: usize) -> [u64; 
         r[0] = r[0] ^ (row[0] % 2);
         return r;
     }
-    put_by_values(&row, area, base, count)
+    put_by_values(row, area, base, count)
 }
 
 // The value of the row's form where parameter j is true exactly if bit j of the setting is set.

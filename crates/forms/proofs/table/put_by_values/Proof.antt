@@ -1,9 +1,12 @@
--- `put_by_values` goes to truth values, puts in, and comes back.
+-- `put_by_values` goes to the truth values of the named rows, puts in, and comes back.
 -- Assumes nothing.
 use borrow.Author.Needs.{needs}
 use Rattle.forms.proofs.Widening.{put-rows}
 use Rattle.forms.proofs.table.put_by_values.Statement.{statement}
 use Rattle.forms.proofs.table.put_by_values.Tie as tie
+
+names-requires : tie.Need-names-requires
+names-requires c κs = search needs
 
 tables-requires : tie.Need-tables-requires
 tables-requires c κs = search needs
@@ -16,8 +19,10 @@ truth-of-requires c κs = search needs
 
 returns : tie.Need-returns
 returns c =
-    put-rows _ _ _ _ _ _ _ (c .before .before .before .tables .ensures) (c .before .put-terms .ensures)
+    let made = c .before .before .before .before in
+    put-rows _ _ _ _ _ _ _ _ (made .before .names .ensures) (made .tables .ensures) (c .before .put-terms .ensures)
     (c .truth-of .ensures)
 
 pub put-by-values-spec : {M : Type 1} → statement M
-put-by-values-spec = tie.close (tie.spec tables-requires put-terms-requires truth-of-requires returns)
+put-by-values-spec =
+    tie.close (tie.spec names-requires tables-requires put-terms-requires truth-of-requires returns)

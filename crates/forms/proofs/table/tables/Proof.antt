@@ -1,4 +1,4 @@
--- `tables` puts the truth values of twelve rows one behind the other.
+-- `tables` puts the tables of twelve rows one behind the other.
 -- Assumes nothing.
 use mathlib.Core.Path.{_≡_, refl}
 use mathlib.Core.List.{List}
@@ -9,27 +9,25 @@ use lib.ListN.{length}
 use Rattle.forms.specs.Form.{Form}
 use Rattle.forms.specs.Words.{most}
 use Rattle.forms.specs.Area.{formIn, Holds}
-use Rattle.forms.specs.Steps.{Tables}
+use Rattle.forms.specs.Steps.{Tables, onlyNamed}
 use Rattle.forms.proofs.Widening.{tables-more}
 use Rattle.forms.proofs.table.tables.Statement.{statement}
 use Rattle.forms.proofs.table.tables.Tie as tie
 
 abbrev Inv-loop : tie.InvT-loop
-Inv-loop area base count ts₀ j₀ ts j =
+Inv-loop area base count named ts₀ j₀ ts j =
     (j ≤ 12) × (length ts ≡ 768)
-    × ((rows : List (Form most)) → Holds most area base count rows → Tables ts j (formIn most rows))
+    × ((rows : List (Form most)) → Holds most area base count rows
+    → Tables ts j (onlyNamed named (formIn most rows)))
 
 abbrev μ-loop : tie.MeasureT-loop
-μ-loop area base count ts₀ j₀ ts j = 12 - j
+μ-loop area base count named ts₀ j₀ ts j = 12 - j
 
 loop-holds : tie.Need-loop-holds Inv-loop μ-loop
 loop-holds c = (omega arith, refl, λ rows h j l. let z : ⊥ = omega arith in absurd z)
 
-row-at-requires : tie.Need-row-at-requires Inv-loop μ-loop
-row-at-requires c κs = search needs
-
-truth-of-requires : tie.Need-truth-of-requires Inv-loop μ-loop
-truth-of-requires c κs = search needs
+table-at-requires : tie.Need-table-at-requires Inv-loop μ-loop
+table-at-requires c κs = search needs
 
 slice-aggregate-store : tie.Need-slice-aggregate-store Inv-loop μ-loop
 slice-aggregate-store c = search needs
@@ -46,14 +44,13 @@ loop-less c = search needs
 loop-again : tie.Need-loop-again Inv-loop μ-loop
 loop-again c =
     let made = c .before .before .before in
-    let at = made .before .before .before .loop in
+    let at = made .before .before .loop in
     let sofar = at .inv in
     let less : at .j < 12 = omega arith in (
       omega arith,
       search needs,
       λ rows h.
-          tables-more _ _ _ _ (formIn most rows) (sofar .1) less
-          (made .truth-of .ensures (formIn most rows (at .j)) (made .before .row-at .ensures most rows h))
+          tables-more _ _ _ _ (onlyNamed _ (formIn most rows)) (sofar .1) less (made .table-at .ensures rows h)
           (c .before .store .ensures) (sofar .2 rows h),
     )
 
@@ -67,8 +64,7 @@ tables-spec =
     Inv-loop
     μ-loop
     loop-holds
-    row-at-requires
-    truth-of-requires
+    table-at-requires
     slice-aggregate-store
     store-requires
     add-j
