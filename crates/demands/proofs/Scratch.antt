@@ -10,7 +10,7 @@ use lib.Dec.{eqb, leb}
 use Rattle.ground.proofs.Folds.{fold-cong}
 use Rattle.ground.proofs.Tabs.{tab-cong}
 use Rattle.forms.specs.Words.{unpack, fits}
-use Rattle.meaning.specs.Rule.{Node, Entry, parameters}
+use Rattle.meaning.specs.Rule.{Node, Entry}
 use Rattle.meaning.specs.Words.{Known, leave, feed, close, valueIfLast, word}
 use Rattle.rewriting.specs.Known.{formAt, pastIn, knownIn, areaOf}
 use Rattle.watcher.specs.declared.state.Watcher.{Watcher}

@@ -1,9 +1,9 @@
 -- No line has more bytes than the buffer that the program lends.
 -- Assumes nothing.
-use mathlib.Core.Path.{_≡_, refl, sym, ap, _∙_, subst}
+use mathlib.Core.Path.{_≡_, refl}
 use mathlib.Core.Bool.{Bool, true, false, cond}
 use mathlib.Core.List.{List, [], _∷_, _++_}
-use Prim.Native.Nat.{ℕ, zero, suc, _+_, _*_, _/_, _%_, _^_, _≤_, _<_}
+use Prim.Native.Nat.{ℕ, zero, suc, _+_, _/_, _%_, _^_, _≤_, _<_}
 use native.Mathlib.Nat.{pow-succ', lt-of-lt-of-le}
 use native.Mathlib.Omega.{arith}
 use lib.Dec.{ltb, lit<, lit≤}
@@ -12,7 +12,6 @@ use borrow.Author.Tests.{ltb-false}
 use Rattle.ground.proofs.ByteLaws.{little-lt}
 use Rattle.watcher.specs.declared.state.Word.{Word}
 use Rattle.watcher.specs.declared.state.Word.the-variants as word
-use Rattle.watcher.specs.declared.state.Verdict.{Verdict}
 use Rattle.watcher.specs.declared.state.Refusal.{Refusal}
 use Rattle.watcher.specs.declared.state.Refusal.the-variants.{RuleLength, RuleRecord, RuleTwins, RuleParameters}
 use Rattle.watcher.specs.declared.state.Refusal.the-variants.{SignalList, SignalMissing, AreaLength, LogRecord}

@@ -1,6 +1,6 @@
 -- A call, with its line put into the buffer, is the line of the call.
 -- Assumes nothing.
-use mathlib.Core.Path.{_≡_, refl, sym, ap, ap₂, _∙_}
+use mathlib.Core.Path.{_≡_, ap, ap₂, _∙_}
 use mathlib.Core.Bool.{Bool, not}
 use mathlib.Core.List.{List}
 use Prim.Native.Nat.{ℕ}
@@ -11,8 +11,6 @@ use Rattle.watcher.specs.declared.state.Ended.{Ended}
 use Rattle.watcher.specs.Records.{timeOf}
 use Rattle.watcher.specs.State.{isRefused}
 use Rattle.watcher.specs.Calls.{startOf, feedOf, closeOf}
-use Rattle.lines.specs.declared.turns.Opened.{Opened}
-use Rattle.lines.specs.declared.turns.Turn.{Turn}
 use Rattle.lines.specs.Text.{foundLine, answerLine, endLine}
 use Rattle.lines.specs.Lines.{putText, turned, startedLine, startLine, fedLine, feedLine, endedLine, closeLine}
 use Rattle.lines.proofs.Texts.{text-placed}

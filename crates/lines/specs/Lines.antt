@@ -5,7 +5,6 @@ use Prim.Native.Nat.{ℕ, _+_, min}
 use lib.Dec.{ltb}
 use lib.ListN.{length, take, drop, set}
 use Rattle.watcher.specs.declared.state.Watcher.{Watcher}
-use Rattle.watcher.specs.declared.state.Found.{Found}
 use Rattle.watcher.specs.declared.state.Started.{Started}
 use Rattle.watcher.specs.declared.state.Fed.{Fed}
 use Rattle.watcher.specs.declared.state.Ended.{Ended}

@@ -1,6 +1,6 @@
 -- Horizons: how they order, which parameters end in time, and that finite upper ends give a rule one.
 -- Assumes nothing.
-use mathlib.Core.Path.{_≡_, refl, sym, ap, subst}
+use mathlib.Core.Path.{_≡_, refl, sym, subst}
 use mathlib.Core.Bool.{Bool, true, false, cond}
 use mathlib.Core.List.{List}
 use Prim.Native.Nat.{ℕ, zero, suc, _+_, _-_, _≤_, _<_, max}
@@ -14,7 +14,7 @@ use Rattle.meaning.specs.Interval.{to, moved}
 use Rattle.meaning.specs.Rule.{Node, fixed, signal, both, either, next, until, previous, since, nodeAt, Earlier}
 use Rattle.meaning.specs.Rule.{Ordered, count, firstOf, shiftedNode}
 use Rattle.meaning.specs.Horizon.{Horizon, within, never, larger, later, horizonOf, horizons, horizon}
-use Rattle.meaning.proofs.Blocks.{block-low, length-one, one-new, node-one}
+use Rattle.meaning.proofs.Blocks.{block-low, length-one, one-new}
 use Rattle.meaning.proofs.Intervals.{between-gives}
 
 -- from time t on, the horizon is over by time b

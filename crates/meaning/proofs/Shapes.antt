@@ -11,7 +11,7 @@ use Rattle.forms.specs.Form.{Form, constant, parameter, DependsOn, names}
 use Rattle.forms.specs.Area.{formIn}
 use Rattle.forms.proofs.Values.{value-agree}
 use Rattle.forms.proofs.Depends.{depends-constant, depends-parameter, depends-and, depends-or, depends-putIn}
-use Rattle.forms.proofs.Depends.{depends-names, names-depends}
+use Rattle.forms.proofs.Depends.{names-depends}
 use Rattle.meaning.specs.Interval.{Interval, inside, shifted, moved}
 use Rattle.meaning.specs.Rule.{Node, fixed, signal, both, either, next, until, previous, since}
 use Rattle.meaning.specs.Rule.{nodeAt, count, firstOf, Entry, holds}

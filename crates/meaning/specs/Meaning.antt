@@ -1,6 +1,6 @@
 -- What a rule means at a record of a log (document 01, "What a rule means"; document 000, section 2).
 -- Records of the log count from 0: document 01's record 1 is record 0 here.
-use mathlib.Core.Bool.{Bool, true, false, _&&_}
+use mathlib.Core.Bool.{Bool, false, _&&_}
 use mathlib.Core.List.{List, [], _∷_, _++_}
 use Prim.Native.Nat.{ℕ, zero, suc, _+_, _-_}
 use lib.Dec.{ltb}

@@ -8,7 +8,7 @@ use Prim.Native.Nat.{ℕ, _+_, _-_, _*_, _/_, _%_, _^_, _≤_, _<_}
 use native.Mathlib.Nat.{zero-add}
 use native.Mathlib.Omega.{arith}
 use lib.Dec.{lit<}
-use lib.ListN.{length, getD, replicate, List·getD-eq-default}
+use lib.ListN.{length, getD, replicate}
 use borrow.Author.Tests.{lt-ltb, le-ltb, eq-eqb, ne-eqb}
 use Rattle.ground.proofs.Folds.{less-or-not}
 use Rattle.ground.proofs.Numbers.{zero-at}
@@ -16,7 +16,7 @@ use Rattle.ground.proofs.Tabs.{length-tab, getD-tab, getD-tab-out, tab-is}
 use Rattle.forms.specs.Form.{Form, constant}
 use Rattle.forms.specs.Words.{pack, unpack, fits}
 use Rattle.forms.specs.Area.{rowAt, putRows, formIn, Holds}
-use Rattle.forms.proofs.Packing.{pack-words, unpack-pack, pack-unpack, fits-pack, pack-false}
+use Rattle.forms.proofs.Packing.{pack-words, unpack-pack, pack-unpack, pack-false}
 use Rattle.forms.proofs.Areas.{length-putRows, row-put, row-kept, row-words, rows-same}
 use Rattle.rewriting.specs.Known.{wordsFor, formAt, pastIn, rowFor, areaOf, Tidy}
 

@@ -4,7 +4,6 @@ use mathlib.Core.Path.{_≡_, refl, sym, ap, ap₂, _∙_, subst}
 use mathlib.Core.Logic.{inl, inr}
 use mathlib.Core.List.{List}
 use Prim.Native.Nat.{ℕ, _+_, _≤_, _<_}
-use native.Mathlib.Nat.{le-refl}
 use native.Mathlib.Omega.{arith}
 use lib.ListN.{length}
 use Rattle.forms.specs.Form.{Form}
@@ -22,7 +21,7 @@ use Rattle.rewriting.specs.Decode.{nodeIn}
 use Rattle.rewriting.specs.Known.{wordsFor, pastIn, Tidy}
 use Rattle.rewriting.specs.Plans.{ruleFor, entryFor, Sound, HoldsForms}
 use Rattle.rewriting.specs.Steps.{neighbourOf, entryIn, nodeFor, Fair}
-use Rattle.rewriting.specs.Walks.{formRow, stepOf, Begins, derivedAt, PutsDerived, derivedFor, derivedWith}
+use Rattle.rewriting.specs.Walks.{formRow, stepOf, Begins, derivedAt, PutsDerived, derivedFor}
 use Rattle.rewriting.specs.Walks.{pastAt, PutsPast, pastFor}
 use Rattle.rewriting.proofs.Counting.{firstOf-rule, parameters-done}
 use Rattle.rewriting.proofs.Placed.{tidy-held}

@@ -10,8 +10,8 @@ use lib.Dec.{eqb, leb, ltb}
 use lib.ListN.{length, List·getD-append}
 use borrow.Author.Tests.{ltb-true, ltb-false, leb-true, leb-false, eqb-true, eqb-false, eq-eqb, ne-eqb, not-false}
 use Rattle.ground.specs.Fold.{some}
-use Rattle.ground.proofs.Folds.{less-or-not, fold-cong, none-at}
-use Rattle.ground.proofs.Tabs.{length-tab, getD-tab, getD-tab-out, tab-cong}
+use Rattle.ground.proofs.Folds.{less-or-not, none-at}
+use Rattle.ground.proofs.Tabs.{tab-cong}
 use Rattle.meaning.specs.Rule.{Node, fixed, signal, both, either, next, until, previous, since}
 use Rattle.meaning.specs.Rule.{nodeAt, Earlier, Ordered, parameters}
 use Rattle.watcher.specs.declared.state.Refusal.{Refusal}

@@ -8,10 +8,10 @@ use native.Mathlib.Nat.{le-refl}
 use native.Mathlib.Omega.{arith}
 use borrow.Author.Tests.{lt-ltb, le-ltb, ltb-false}
 use lib.Dec.{ltb}
-use lib.ListN.{length, take, drop, length-take, take-append-drop}
+use lib.ListN.{length, take, drop, take-append-drop}
 use lib.Seq.{length-take-le}
 use Rattle.ground.specs.Bytes.{zerosFrom}
-use Rattle.meaning.specs.Rule.{signal, nodeAt, Ordered, parameters}
+use Rattle.meaning.specs.Rule.{parameters}
 use Rattle.rewriting.specs.Decode.{recordBytes, byteOf, ruleIn}
 use Rattle.watcher.specs.declared.state.Watcher.{Watcher}
 use Rattle.watcher.specs.declared.state.Found.{Found}
@@ -22,8 +22,7 @@ use Rattle.watcher.specs.Lists.{listsRefusal}
 use Rattle.watcher.specs.State.{ruleOf, parametersOf, ruleBytes, listBytesOf}
 use Rattle.watcher.specs.State.{isRefused, startRefuses, notZerosBehind}
 use Rattle.watcher.proofs.Decoded.{Accepted, fine-tests, neither, length-fine, record-fine, byte-before}
-use Rattle.watcher.proofs.Decoded.{ruleIn-before, accepted-laid, accepted-ordered, accepted-few}
-use Rattle.watcher.proofs.Decoded.{accepted-signals}
+use Rattle.watcher.proofs.Decoded.{ruleIn-before, accepted-laid, accepted-few}
 
 -- so many records have room in a list
 pub records-room : (n long : ℕ) → listBytes ≡ long → n ≤ mostRecords → recordBytes * n ≤ long

@@ -5,11 +5,11 @@ use mathlib.Core.Bool.{Bool, true, false, not, _&&_}
 use mathlib.Core.List.{List}
 use Prim.Native.Nat.{ℕ, _+_, _≤_, _<_}
 use native.Mathlib.Omega.{arith}
-use lib.Dec.{leb, eqb}
+use lib.Dec.{eqb}
 use lib.ListN.{length, getD, replicate}
 use lib.Seq.{ext-getD}
 use borrow.Author.Tests.{not-false, le-leb, eqb-true}
-use Rattle.ground.specs.Fold.{every, some}
+use Rattle.ground.specs.Fold.{some}
 use Rattle.ground.proofs.Folds.{none-at, every-at}
 use Rattle.ground.proofs.Numbers.{zero-at}
 use Rattle.forms.specs.Words.{fits}

@@ -3,7 +3,7 @@
 use mathlib.Core.Path.{_≡_, refl, sym, ap, ap₂, _∙_, subst}
 use mathlib.Core.Bool.{Bool}
 use mathlib.Core.List.{List, []}
-use Prim.Native.Nat.{ℕ, _+_, _*_, _≤_}
+use Prim.Native.Nat.{ℕ, _≤_}
 use native.Mathlib.Omega.{arith}
 use lib.ListN.{length}
 use Rattle.forms.specs.Form.{Form}
@@ -12,12 +12,11 @@ use Rattle.forms.specs.Rows.{OfForm, whichConstant}
 use Rattle.forms.specs.Area.{rowAt}
 use Rattle.forms.specs.declared.rows.Truth.{Truth}
 use Rattle.forms.specs.declared.rows.Truth.the-variants.{True, False, Open}
-use Rattle.meaning.specs.Rule.{Node, Entry, parameters}
-use Rattle.meaning.specs.Words.{Known, word, wordFor, start, leave, feed, close, valueIfLast}
+use Rattle.meaning.specs.Rule.{Node, Entry}
+use Rattle.meaning.specs.Words.{Known, word, wordFor, start, close, valueIfLast}
 use Rattle.rewriting.specs.declared.step.Plan.{Plan}
 use Rattle.rewriting.specs.declared.step.Moment.{Moment}
-use Rattle.rewriting.specs.Decode.{ruleIn}
-use Rattle.rewriting.specs.Known.{wordsFor, formAt, knownIn, areaOf, Tidy}
+use Rattle.rewriting.specs.Known.{wordsFor, knownIn, areaOf, Tidy}
 use Rattle.rewriting.specs.Plans.{Sound, ruleFor, entryFor, readIn, leftWith, fedWith, closedWith}
 use Rattle.rewriting.proofs.Placed.{row-areaOf, row-remainder}
 use Rattle.watcher.specs.declared.state.Word.{Word}
@@ -37,7 +36,7 @@ use Rattle.watcher.specs.declared.state.Ended.{Ended}
 use Rattle.watcher.specs.Limits.{mostRecords, mostParameters, areaWords}
 use Rattle.watcher.specs.Rules.{recordsOf}
 use Rattle.watcher.specs.Records.{timeOf, signalWord, entryOf}
-use Rattle.watcher.specs.Numbers.{saying, verdictFor, fresh, running, closed, stageOf}
+use Rattle.watcher.specs.Numbers.{saying, verdictFor, stageOf}
 use Rattle.watcher.specs.State.{ruleOf, parametersOf}
 use Rattle.watcher.specs.Calls.{freshState, zeroState, runningState, closedState, knownNext, knownNow}
 use Rattle.watcher.specs.Calls.{startRefusal, startWith, startOf, feedRefusal, feedWith, feedOf}

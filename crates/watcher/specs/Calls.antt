@@ -5,7 +5,6 @@ use Prim.Native.Nat.{ℕ}
 use lib.Dec.{eqb, ltb}
 use lib.ListN.{length, getD, replicate}
 use Rattle.ground.specs.Fold.{tab}
-use Rattle.forms.specs.Form.{Form}
 use Rattle.meaning.specs.Rule.{Node, Entry, parameters}
 use Rattle.meaning.specs.Horizon.{Horizon, never, horizon}
 use Rattle.meaning.specs.Words.{Known, leave, feed, close, valueIfLast, word}

@@ -1,6 +1,6 @@
 -- What the functions behind start, feed and close say. Nobody outside has to believe it.
 use mathlib.Core.Path.{_≡_}
-use mathlib.Core.Bool.{Bool, false}
+use mathlib.Core.Bool.{false}
 use mathlib.Core.List.{List, []}
 use Prim.Native.Nat.{ℕ, _^_, _<_}
 use lib.ListN.{length, getD}

@@ -59,9 +59,11 @@ pub fn put_in(row: &Row, area: &[u64], base: usize, count: usize) -> Row {
     if named == 0 {
         return *row;
     }
-    if named.is_power_of_two() && next_term(row, 0, 4096) == named {
+    if named.is_power_of_two() {
         let p = named.trailing_zeros() as usize;
-        return if p < count { *row_at(area, base + p) } else { NO_TERMS };
+        let mut r = if p < count { *row_at(area, base + p) } else { NO_TERMS };
+        r[0] ^= row[0] % 2;
+        return r;
     }
     let mut tables = [NO_TERMS; 12];
     for j in (0..count).filter(|j| named >> j & 1 == 1) {

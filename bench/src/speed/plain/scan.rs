@@ -19,9 +19,9 @@ pub fn next_term(row: &Row, from: usize, to: usize) -> usize {
     to
 }
 
-/// The parameter that the row's form is, or 12 where it is none.
+/// The parameter that the row's form is, or is the negation of; 12 where there is none.
 pub fn lone(row: &Row) -> usize {
-    let k = next_term(row, 0, 4096);
+    let k = next_term(row, 1, 4096);
     if next_term(row, k + 1, 4096) < 4096 {
         return 12;
     }

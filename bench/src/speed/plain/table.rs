@@ -1,6 +1,6 @@
 //! The truth values of a row, and putting rows in by them.
 
-use super::rows::{row_at, Row, NO_TERMS};
+use super::rows::{names, row_at, Row, NO_TERMS};
 use super::scan::{lone, next_term};
 
 /// The truth values of twelve rows.
@@ -73,11 +73,11 @@ fn put_terms(row: &Row, tables: &Tables, p: usize, k: usize) -> Row {
     mix(&a, &tables[q], &b)
 }
 
-/// The truth values of the first twelve of the count rows from base on, and of false behind them.
-fn tables(area: &[u64], base: usize, count: usize) -> Tables {
+/// The truth values of those of the count rows from base on whose parameters are named, and of false.
+fn tables(area: &[u64], base: usize, count: usize, named: usize) -> Tables {
     let mut tables = [NO_TERMS; 12];
     for (j, table) in tables.iter_mut().enumerate() {
-        if j < count {
+        if (named >> j) % 2 == 1 && j < count {
             *table = truth_of(row_at(area, base + j));
         }
     }
@@ -86,20 +86,22 @@ fn tables(area: &[u64], base: usize, count: usize) -> Tables {
 
 /// The row's form with the count rows of the area from base on put in for its parameters.
 pub fn put_in(row: &Row, area: &[u64], base: usize, count: usize) -> Row {
-    // A constant stays, and a parameter is the row put in for it: most calls need no truth values.
+    // A constant stays, and a parameter is the row put in for it, negated or not: most calls need no truth values.
     if next_term(row, 1, 4096) == 4096 {
         return *row;
     }
     let p = lone(row);
     if p < 12 {
-        return if p < count { *row_at(area, base + p) } else { NO_TERMS };
+        let mut r = if p < count { *row_at(area, base + p) } else { NO_TERMS };
+        r[0] ^= row[0] % 2;
+        return r;
     }
     put_by_values(row, area, base, count)
 }
 
 /// What `put_in` makes, by truth values, whatever the row's form is.
 fn put_by_values(row: &Row, area: &[u64], base: usize, count: usize) -> Row {
-    let tables = tables(area, base, count);
+    let tables = tables(area, base, count, names(row));
     let v = put_terms(row, &tables, 12, 0);
     truth_of(&v)
 }

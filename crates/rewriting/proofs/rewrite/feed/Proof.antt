@@ -1,10 +1,8 @@
 -- `rewrite::feed` meets its contract: derived rows, the remainder, past rows, and the scratch cleared.
 -- Assumes nothing.
-use native.Mathlib.Omega.{arith}
 use borrow.Author.Needs.{needs}
-use mathlib.Core.Path.{_∙_}
 use Rattle.rewriting.specs.Steps.{neighbourOf}
-use Rattle.rewriting.proofs.Rewritten.{plan-few, feed-done}
+use Rattle.rewriting.proofs.Rewritten.{feed-done}
 use Rattle.rewriting.proofs.rewrite.feed.Statement.{statement}
 use Rattle.rewriting.proofs.rewrite.feed.Tie as tie
 

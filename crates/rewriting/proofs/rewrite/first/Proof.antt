@@ -1,6 +1,5 @@
 -- `rewrite::first` meets its contract: past rows with no derived rows, and the scratch cleared.
 -- Assumes nothing.
-use native.Mathlib.Omega.{arith}
 use borrow.Author.Needs.{needs}
 use Rattle.rewriting.specs.Steps.{neighbourOf}
 use Rattle.rewriting.proofs.Rewritten.{first-done}
