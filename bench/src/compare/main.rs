@@ -22,7 +22,7 @@ mod state;
 use counts::Counts;
 use std::process::exit;
 
-const USUAL_COUNT: u64 = 200_000;
+const USUAL_COUNT: u64 = 300_000;
 const USUAL_SEED: u64 = 1;
 /// From so many cases on, no count may be zero.
 const ENOUGH: u64 = 20_000;
