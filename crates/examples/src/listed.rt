@@ -1,8 +1,8 @@
 // The fourteen examples of document 01.
-use crate::print::difference;
-use crate::print::number;
-use crate::print::text;
-use crate::watch::run;
+use answers::print::difference;
+use answers::print::number;
+use answers::print::text;
+use answers::watch::run;
 use chance::made::put_interval;
 use chance::made::put_rule;
 use chance::made::put_signal;

@@ -1,8 +1,8 @@
 // The listing of document 01, as calls: the lines that the watching program prints.
 use crate::listed::rule_a;
-use crate::print::number;
-use crate::print::text;
-use crate::watch::run;
+use answers::print::number;
+use answers::print::text;
+use answers::watch::run;
 use chance::made::put_signal;
 use chance::made::put_wind;
 use judge::bytes::at;

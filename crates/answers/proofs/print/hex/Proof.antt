@@ -2,8 +2,8 @@
 -- Assumes nothing.
 use Prim.Native.Nat.{_-_, _≤_}
 use borrow.Author.Needs.{needs}
-use Rattle.examples.proofs.print.hex.Statement.{statement}
-use Rattle.examples.proofs.print.hex.Tie as tie
+use Rattle.answers.proofs.print.hex.Statement.{statement}
+use Rattle.answers.proofs.print.hex.Tie as tie
 
 abbrev Inv-loop : tie.InvT-loop
 Inv-loop bytes place₀ place-end place = place ≤ place-end

@@ -4,8 +4,8 @@ use mathlib.Core.Path.{_≡_}
 use Prim.Native.Nat.{_-_}
 use lib.ListN.{length}
 use borrow.Author.Needs.{needs}
-use Rattle.examples.proofs.compare.random_cases.Statement.{statement}
-use Rattle.examples.proofs.compare.random_cases.Tie as tie
+use Rattle.cases.proofs.compare.random_cases.Statement.{statement}
+use Rattle.cases.proofs.compare.random_cases.Tie as tie
 
 abbrev Inv-loop : tie.InvT-loop
 Inv-loop cases area₀ seed₀ tally₀ done₀ t6 area seed tally done =

@@ -1,11 +1,11 @@
 // Cases by chance, through the watcher and the second evaluator, and what is counted of them.
 use crate::agree::agree;
 use crate::agree::is_decided;
-use crate::print::difference;
-use crate::print::number;
-use crate::print::text;
-use crate::watch::horizon_said;
-use crate::watch::run;
+use answers::print::difference;
+use answers::print::number;
+use answers::print::text;
+use answers::watch::horizon_said;
+use answers::watch::run;
 use chance::random::random_log;
 use chance::random::random_rule;
 use chance::random::random_signals;

@@ -4,8 +4,8 @@ use mathlib.Core.Path.{_≡_}
 use Prim.Native.Nat.{_-_, _≤_}
 use lib.ListN.{length}
 use borrow.Author.Needs.{needs}
-use Rattle.examples.proofs.watch.fed.Statement.{statement}
-use Rattle.examples.proofs.watch.fed.Tie as tie
+use Rattle.answers.proofs.watch.fed.Statement.{statement}
+use Rattle.answers.proofs.watch.fed.Tie as tie
 
 abbrev Inv-loop : tie.InvT-loop
 Inv-loop log said₀ area₀ watcher₀ count n₀ said area watcher n =

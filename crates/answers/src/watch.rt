@@ -29,13 +29,7 @@ fn fed(start: Watcher, log: &[u8], said: &mut [u8], area: &mut [u64]) -> usize {
 }
 
 // Starts a watcher, and feeds and closes it where the start is not refused; answers how many letters it wrote.
-pub(crate) fn run(
-    rule: &[u8],
-    signals: &[u8],
-    log: &[u8],
-    said: &mut [u8],
-    area: &mut [u64],
-) -> usize {
+pub fn run(rule: &[u8], signals: &[u8], log: &[u8], said: &mut [u8], area: &mut [u64]) -> usize {
     let started = Watcher::start(rule, signals, area);
     let found = started.found;
     let watcher = started.next;
@@ -49,7 +43,7 @@ pub(crate) fn run(
 }
 
 // The horizon of the watcher that starts with the lists; `none` if it has no limit.
-pub(crate) fn horizon_said(rule: &[u8], signals: &[u8], area: &mut [u64], none: u64) -> u64 {
+pub fn horizon_said(rule: &[u8], signals: &[u8], area: &mut [u64], none: u64) -> u64 {
     let started = Watcher::start(rule, signals, area);
     let watcher = started.next;
     let wait = watcher.horizon();

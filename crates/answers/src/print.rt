@@ -2,12 +2,12 @@
 use judge::bytes::at;
 
 // Writes text as it stands.
-pub(crate) fn text(bytes: &[u8]) {
+pub fn text(bytes: &[u8]) {
     io::write_all(1, bytes);
 }
 
 // Writes a number.
-pub(crate) fn number(n: u64) {
+pub fn number(n: u64) {
     io::print_decimal(1, n);
 }
 
@@ -19,7 +19,7 @@ fn hex(bytes: &[u8]) {
 }
 
 // Writes a line with a difference: the case whole, what was said and what was wanted.
-pub(crate) fn difference(rule: &[u8], signals: &[u8], log: &[u8], said: &[u8], wanted: &[u8]) {
+pub fn difference(rule: &[u8], signals: &[u8], log: &[u8], said: &[u8], wanted: &[u8]) {
     text(b"DIFFERENCE rule ");
     hex(rule);
     text(b" signals ");

@@ -4,8 +4,8 @@ use mathlib.Core.Path.{_≡_}
 use Prim.Native.Nat.{_-_, _≤_}
 use lib.ListN.{length}
 use borrow.Author.Needs.{needs}
-use Rattle.examples.proofs.compare.count_words.Statement.{statement}
-use Rattle.examples.proofs.compare.count_words.Tie as tie
+use Rattle.cases.proofs.compare.count_words.Statement.{statement}
+use Rattle.cases.proofs.compare.count_words.Tie as tie
 
 abbrev Inv-loop : tie.InvT-loop
 Inv-loop tally₀ said words place₀ tally place = (place ≤ words) × (length tally ≡ length tally₀)
