@@ -10,28 +10,28 @@ use Rattle.forms.specs.Rows.{whichConstant}
 use Rattle.meaning.specs.Interval.{distance, inside, shifts, shifted, moved}
 use Rattle.meaning.specs.Rule.{nodeAt, count, firstOf, parameters, entryAt, timeAt, holds}
 use Rattle.meaning.specs.Meaning.{nextAt, untilAt, sinceAt, meaning, values, valueOf}
+use Rattle.meaning.specs.Horizon.{larger, later, horizonOf, horizons, horizon}
 use Rattle.meaning.specs.Rewriting.{put, onlyIf, formOf, formsOf, parameterTo, rowTo, nextRow, untilLater, derivedRow}
 use Rattle.meaning.specs.Rewriting.{derivedRows, sinceEarlier, pastRow, pastRows}
 use Rattle.meaning.specs.Words.{start, first, feed, close, wordFor, word}
+use Rattle.rewriting.specs.Decode.{byteOf, intervalOf, nodeOf, nodeIn, ruleIn}
 use Rattle.watcher.specs.Numbers.{refusalNumber}
-use Rattle.rewriting.specs.Decode.{byteOf}
 use Rattle.watcher.specs.Rules.{recordsOf, wrongLength, usedBytes, uses, fairLimits, usedRight}
-use Rattle.rewriting.specs.Decode.{intervalOf, nodeOf}
-use Rattle.watcher.specs.Rules.{byteBreaks, recordBreaks, ruleBreaks, sameRecord, hasTwins}
-use Rattle.rewriting.specs.Decode.{nodeIn, ruleIn}
+use Rattle.watcher.specs.Rules.{byteBreaks, recordBreaks, ruleBreaks, sameRecord, hasTwins, manyParameters}
 use Rattle.watcher.specs.Signals.{signalBreaks, wrongSignals, namesMissing, limitOf}
-use Rattle.watcher.specs.Records.{wrongRecord, timeOf, windOf, windMeets, meets, signalHolds}
-use Rattle.watcher.specs.Records.{signalWord, entryOf}
+use Rattle.watcher.specs.Records.{wrongRecord, timeOf, windOf, windMeets, meets, signalHolds, signalWord, entryOf}
 use Rattle.watcher.specs.Lists.{firstRefusal, listTests, listsRefusal}
-use Rattle.watcher.specs.Rules.{manyParameters}
+use Rattle.demands.specs.Logs.{lastTime, accepts, logWith}
+use Rattle.demands.specs.Rewritten.{readRule, parametersIn}
 use Rattle.demands.specs.Examples.{allIn, table, passes}
 
 pub examples : allIn passes table ≡ true
 unfolding table passes fold someIn everyIn tab bit ofBits little constant parameter xor and or putIn same
     whichConstant distance inside shifts shifted moved nodeAt count firstOf parameters entryAt timeAt holds nextAt
-    untilAt sinceAt meaning values valueOf put onlyIf formOf formsOf parameterTo rowTo nextRow untilLater derivedRow
-    derivedRows sinceEarlier pastRow pastRows start first feed close wordFor word refusalNumber byteOf recordsOf
-    wrongLength usedBytes uses fairLimits usedRight byteBreaks recordBreaks ruleBreaks sameRecord hasTwins intervalOf
-    nodeOf nodeIn ruleIn signalBreaks wrongSignals namesMissing limitOf wrongRecord timeOf windOf windMeets meets
-    signalHolds signalWord entryOf firstRefusal manyParameters listTests listsRefusal
+    untilAt sinceAt meaning values valueOf larger later horizonOf horizons horizon put onlyIf formOf formsOf
+    parameterTo rowTo nextRow untilLater derivedRow derivedRows sinceEarlier pastRow pastRows start first feed close
+    wordFor word refusalNumber byteOf recordsOf wrongLength usedBytes uses fairLimits usedRight byteBreaks
+    recordBreaks ruleBreaks sameRecord hasTwins intervalOf nodeOf nodeIn ruleIn signalBreaks wrongSignals namesMissing
+    limitOf wrongRecord timeOf windOf windMeets meets signalHolds signalWord entryOf firstRefusal manyParameters
+    listTests listsRefusal lastTime accepts logWith readRule parametersIn
 examples = refl

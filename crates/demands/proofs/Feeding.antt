@@ -1,12 +1,11 @@
 -- What feeding and closing do to a state and an area that the watcher made.
 -- Assumes nothing.
-use mathlib.Core.Path.{_≡_, refl, ap, ap₂, _∙_}
-use mathlib.Core.Bool.{Bool, true, false, not, _&&_}
+use mathlib.Core.Path.{_≡_, refl, sym, ap, _∙_, subst}
+use mathlib.Core.Bool.{Bool, true, false, not}
 use mathlib.Core.List.{List, []}
-use Prim.Native.Nat.{ℕ, _≤_, _<_}
-use lib.Dec.{leb}
+use Prim.Native.Nat.{ℕ, _≤_}
 use lib.ListN.{length}
-use borrow.Author.Tests.{le-ltb, leb-true, leb-false, eq-eqb}
+use borrow.Author.Tests.{le-ltb, eq-eqb}
 use Rattle.forms.specs.Form.{Form}
 use Rattle.meaning.specs.Rule.{Node, Entry, parameters}
 use Rattle.meaning.specs.Words.{Known, first, feed, close, valueIfLast, word}
@@ -32,27 +31,13 @@ use Rattle.watcher.specs.Calls.{wrongArea, isClosed, isFresh, tooEarly, stateTe
 use Rattle.watcher.specs.Calls.{knownNext, runningState, feedWith, feedOf, knownNow, closedState}
 use Rattle.watcher.specs.Calls.{closeWith, closeOf}
 use Rattle.watcher.specs.Calls.{freshState}
-use Rattle.watcher.specs.Runs.{accepts, readRule, parametersIn, heldKnown, heldAfter}
+use Rattle.demands.specs.Rewritten.{readRule, parametersIn, heldKnown, heldAfter}
+use Rattle.demands.specs.Demands.{Says}
 use Rattle.watcher.proofs.Decoded.{Accepted}
 use Rattle.rewriting.proofs.Placed.{length-areaOf, read-past, read-remainder}
 use Rattle.demands.proofs.Padding.{entry-padded}
 use Rattle.demands.proofs.OwnStates.{stateIn, list-short, rule-in, few-parameters, Lawful, fresh-fine}
 use Rattle.demands.proofs.OwnStates.{running-fine}
-
--- a record is accepted, wrong, or too early
-pub data Judged (last : ℕ) (bytes : List ℕ) : Type 0 where
-  taken : accepts last bytes ≡ true → wrongRecord bytes ≡ false → last ≤ timeOf bytes → Judged last bytes
-  wrong : accepts last bytes ≡ false → wrongRecord bytes ≡ true → Judged last bytes
-  early : accepts last bytes ≡ false → wrongRecord bytes ≡ false → timeOf bytes < last → Judged last bytes
-
-pub judge : (last : ℕ) (bytes : List ℕ) → Judged last bytes
-unfolding accepts
-judge last bytes = go (wrongRecord bytes) (leb last (timeOf bytes)) refl refl
-  where
-    go : (a b : Bool) → wrongRecord bytes ≡ a → leb last (timeOf bytes) ≡ b → Judged last bytes
-    go true b p q = wrong (ap (λ x. not x && leb last (timeOf bytes)) p) p
-    go false true p q = taken (ap₂ (λ x y. not x && y) p q) p (leb-true last (timeOf bytes) q)
-    go false false p q = early (ap₂ (λ x y. not x && y) p q) p (leb-false last (timeOf bytes) q)
 
 -- a state that is not broken, with an area of the right length
 module _ (w : Watcher) (ws : List ℕ) (area : wrongArea ws ≡ false) (sound : brokenState w ws ≡ false) where
@@ -124,22 +109,17 @@ closedBy rule w ws stage =
     (record { answer = end.Closed (verdictFor b); next = closedState w b }, areaOf mostParameters m (s .past) f)
 
 -- the outcome of a record after which so much is known
-unfoldable pub fedInto : (rule signals : List ℕ) → Known (parametersIn rule) → Fed × List ℕ
-fedInto rule signals s = (
-  record {
-    answer = answer.Accepted (record { word = saying (word (parametersIn rule) (s .remainder)) });
-    next = heldKnown rule signals s .state;
-  },
-  heldKnown rule signals s .area,
-)
+pub record FedInto (rule signals : List ℕ) (s : Known (parametersIn rule)) (o : Fed × List ℕ) : Type 0 where
+  pub says : Says (o .0 .answer) (saying (word (parametersIn rule) (s .remainder)))
+  pub next : o .0 .next ≡ heldKnown rule signals s .state
+  pub area : o .1 ≡ heldKnown rule signals s .area
 
 -- the outcome of closing where so much is known
-unfoldable pub closedInto : (rule signals : List ℕ) → Known (parametersIn rule) → Ended × List ℕ
-closedInto rule signals s =
-    let b : Bool = valueIfLast (parametersIn rule) (readRule rule) s in (
-      record { answer = end.Closed (verdictFor b); next = stateIn rule signals (phase.Closed (verdictFor b)) },
-      areaOf mostParameters (parametersIn rule) (s .past) (close (parametersIn rule) (readRule rule) s),
-    )
+pub record ClosedInto (rule signals : List ℕ) (s : Known (parametersIn rule)) (o : Ended × List ℕ) : Type 0 where
+  pub says : o .0 .answer ≡ end.Closed (verdictFor (valueIfLast (parametersIn rule) (readRule rule) s))
+  pub next : o .0 .next
+      ≡ closedState (freshState rule signals) (valueIfLast (parametersIn rule) (readRule rule) s)
+  pub area : o .1 ≡ areaOf mostParameters (parametersIn rule) (s .past) (close (parametersIn rule) (readRule rule) s)
 
 module _ (rule signals : List ℕ) (fine : Accepted rule signals) where
   fed-by : (p : Phase) (bytes ws : List ℕ) → feedRefusal (stateIn rule signals p) bytes ws ≡ Fine
@@ -179,16 +159,19 @@ module _ (rule signals : List ℕ) (fine : Accepted rule signals) where
 
   -- the first record
   pub feed-first : (bytes : List ℕ) → wrongRecord bytes ≡ false
-      → feedOf (heldAfter rule signals [] .state) bytes (heldAfter rule signals [] .area)
-      ≡ fedInto rule signals (first (parametersIn rule) (readRule rule) (entryOf signals (recordsOf signals) bytes))
-  unfolding heldAfter heldKnown freshState stateIn stageOf isClosed tooEarly fedBy fedInto knownNext runningState
-      first parametersIn
+      → FedInto rule signals (first (parametersIn rule) (readRule rule) (entryOf signals (recordsOf signals) bytes))
+      (feedOf (heldAfter rule signals [] .state) bytes (heldAfter rule signals [] .area))
+  unfolding heldAfter heldKnown freshState stateIn stageOf isClosed tooEarly fedBy knownNext runningState first
+      parametersIn Says
   feed-first bytes right =
-      fed-by phase.Fresh bytes ws
+      subst (FedInto rule signals (first m (readRule rule) e))
+      (sym
+      (fed-by phase.Fresh bytes ws
       (feed-accepts (stateIn rule signals phase.Fresh) ws (area-right m [] f) (fresh-fine rule signals fine f) refl
-      bytes right refl)
-      ∙ ap (λ g. fedInto rule signals (words.leave m (readRule rule) g (entryOf signals (recordsOf signals) bytes)))
+      bytes right refl)))
+      (subst (λ g. FedInto rule signals (words.leave m (readRule rule) g e) outcome)
       (read-remainder mostParameters m [] f (few-parameters rule signals fine))
+      (record { says = refl; next = refl; area = refl }))
     where
       m : ℕ
       m = parameters (readRule rule)
@@ -199,19 +182,26 @@ module _ (rule signals : List ℕ) (fine : Accepted rule signals) where
       ws : List ℕ
       ws = areaOf mostParameters m [] f
 
+      e : Entry
+      e = entryOf signals (recordsOf signals) bytes
+
+      outcome : Fed × List ℕ
+      outcome = fedBy (readRule rule) (stateIn rule signals phase.Fresh) e ws (stageOf phase.Fresh)
+
   -- a later record
   pub feed-later : (s : Known (parametersIn rule)) → Lawful rule signals s → (bytes : List ℕ)
       → wrongRecord bytes ≡ false → s .last .time ≤ timeOf bytes
-      → feedOf (heldKnown rule signals s .state) bytes (heldKnown rule signals s .area)
-      ≡ fedInto rule signals (feed (parametersIn rule) (readRule rule) s (entryOf signals (recordsOf signals) bytes))
-  unfolding heldKnown freshState stateIn stageOf isClosed tooEarly fedBy fedInto knownNext runningState feed
-      parametersIn
+      → FedInto rule signals (feed (parametersIn rule) (readRule rule) s (entryOf signals (recordsOf signals) bytes))
+      (feedOf (heldKnown rule signals s .state) bytes (heldKnown rule signals s .area))
+  unfolding heldKnown freshState stateIn stageOf isClosed tooEarly fedBy knownNext runningState feed parametersIn Says
   feed-later s ok bytes right time =
-      fed-by p bytes ws
+      subst (FedInto rule signals (feed m (readRule rule) s e))
+      (sym
+      (fed-by p bytes ws
       (feed-accepts (stateIn rule signals p) ws (area-right m (s .past) (s .remainder))
-      (running-fine rule signals fine s ok) refl bytes right (le-ltb (timeOf bytes) (s .last .time) time))
-      ∙ ap (λ k. fedInto rule signals (feed m (readRule rule) k (entryOf signals (recordsOf signals) bytes)))
-      (known-read s ok)
+      (running-fine rule signals fine s ok) refl bytes right (le-ltb (timeOf bytes) (s .last .time) time))))
+      (subst (λ k. FedInto rule signals (feed m (readRule rule) k e) outcome) (known-read s ok)
+      (record { says = refl; next = refl; area = refl }))
     where
       m : ℕ
       m = parameters (readRule rule)
@@ -221,17 +211,26 @@ module _ (rule signals : List ℕ) (fine : Accepted rule signals) where
 
       ws : List ℕ
       ws = areaOf mostParameters m (s .past) (s .remainder)
+
+      e : Entry
+      e = entryOf signals (recordsOf signals) bytes
+
+      outcome : Fed × List ℕ
+      outcome = fedBy (readRule rule) (stateIn rule signals p) e ws (stageOf p)
 
   -- closing
   pub close-known : (s : Known (parametersIn rule)) → Lawful rule signals s
-      → closeOf (heldKnown rule signals s .state) (heldKnown rule signals s .area) ≡ closedInto rule signals s
-  unfolding heldKnown freshState stateIn stageOf isClosed isFresh closedBy closedInto knownNow runningState
-      closedState parametersIn
+      → ClosedInto rule signals s (closeOf (heldKnown rule signals s .state) (heldKnown rule signals s .area))
+  unfolding heldKnown freshState stateIn stageOf isClosed isFresh closedBy knownNow runningState closedState
+      parametersIn
   close-known s ok =
-      closed-by p ws
+      subst (ClosedInto rule signals s)
+      (sym
+      (closed-by p ws
       (close-accepts (stateIn rule signals p) ws (area-right m (s .past) (s .remainder))
-      (running-fine rule signals fine s ok) refl refl)
-      ∙ ap (closedInto rule signals) (known-read s ok)
+      (running-fine rule signals fine s ok) refl refl)))
+      (subst (λ k. ClosedInto rule signals k outcome) (known-read s ok)
+      (record { says = refl; next = refl; area = refl }))
     where
       m : ℕ
       m = parameters (readRule rule)
@@ -241,3 +240,6 @@ module _ (rule signals : List ℕ) (fine : Accepted rule signals) where
 
       ws : List ℕ
       ws = areaOf mostParameters m (s .past) (s .remainder)
+
+      outcome : Ended × List ℕ
+      outcome = closedBy (readRule rule) (stateIn rule signals p) ws (stageOf p)

@@ -28,7 +28,8 @@ use Rattle.watcher.specs.Numbers.{Stage, fresh, running, closed, stageOf}
 use Rattle.watcher.specs.State.{ruleOf, parametersOf}
 use Rattle.watcher.specs.Calls.{startRefusal, feedRefusal, closeRefusal, startWith, startOf, feedWith, feedOf}
 use Rattle.watcher.specs.Calls.{closeWith, closeOf, knownNext, knownNow}
-use Rattle.watcher.specs.Runs.{Clean, readRule, parametersIn}
+use Rattle.demands.specs.Areas.{Clean}
+use Rattle.demands.specs.Rewritten.{readRule, parametersIn}
 
 -- an area that is laid out with no more past rows than parameters
 clean-area : (m : ℕ) (past : List (Form m)) (remainder : Form m) → length past ≤ m

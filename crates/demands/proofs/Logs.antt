@@ -1,25 +1,26 @@
 -- Logs of accepted records: their times never fall, and what is known after one is as refusal 12 asks.
 -- Assumes nothing.
-use mathlib.Core.Path.{_≡_, refl, sym, ap, _∙_, subst}
+use mathlib.Core.Path.{_≡_, refl, ap, _∙_, subst, sym}
 use mathlib.Core.Bool.{Bool, true, false, cond}
-use mathlib.Core.List.{List, [], _∷_, _++_}
-use Prim.Native.Nat.{ℕ, _+_, _-_, _^_, _<_}
+use mathlib.Core.List.{List, [], _∷_, _++_, append-nil, append-assoc}
+use Prim.Native.Nat.{ℕ, _+_, _-_, _^_, _≤_, _<_}
 use native.Mathlib.Omega.{arith}
 use lib.ListN.{length, length-append}
 use lib.Seq.{getD-append-seam}
-use Rattle.meaning.specs.Rule.{Node, Entry, entryAt, timeAt, parameters}
+use Rattle.meaning.specs.Rule.{Node, Entry, entryAt, timeAt, parameters, Rising}
 use Rattle.meaning.specs.Rewriting.{none, at, derivedRows}
 use Rattle.meaning.specs.Words.{Known, first, feed, fed, after}
 use Rattle.meaning.proofs.Blocks.{length-pastRows, firstOf-fits}
 use Rattle.meaning.proofs.Shapes.{first-shape, feed-shape}
-use Rattle.meaning.proofs.Settling.{Climbs, last-after}
+use Rattle.meaning.proofs.Settling.{Climbs, climbs-rising, last-after}
 use Rattle.watcher.specs.Rules.{recordsOf}
 use Rattle.watcher.specs.Records.{timeOf, entryOf}
-use Rattle.watcher.specs.Runs.{accepts, acceptedAfter, acceptedLog}
-use Rattle.watcher.specs.Runs.{lastTime, readRule, parametersIn}
+use Rattle.demands.specs.Watching.{Call, feeding, closing}
+use Rattle.demands.specs.Logs.{lastTime, accepts, logWith, Course, going, over, further, furtherBy, logIn}
+use Rattle.demands.specs.Rewritten.{readRule, parametersIn}
 use Rattle.demands.proofs.Padding.{entry-below}
 use Rattle.demands.proofs.OwnStates.{Lawful}
-use Rattle.demands.proofs.Feeding.{Judged, taken, wrong, early, judge}
+use Rattle.demands.proofs.Judging.{Judged, taken, wrong, early, judge}
 
 -- no signal past so many holds in any record of a log
 abbrev pub Below : ℕ → List Entry → Type 0
@@ -87,40 +88,6 @@ module _ (rule signals : List ℕ) where
       go [] s ok b = ok
       go (e ∷ es) s ok b = go es (feed (parametersIn rule) (readRule rule) s e) (feed-lawful s e (b .0)) (b .1)
 
--- the accepted records: times never fall, and signals stay within the list
-pub accepted-climbs : (signals : List ℕ) (last : ℕ) (records : List (List ℕ))
-    → Climbs last (acceptedAfter signals last records)
-unfolding acceptedAfter entryOf
-accepted-climbs signals last [] = tt
-accepted-climbs signals last (bytes ∷ more) =
-    go (judge last bytes) (accepted-climbs signals last more) (accepted-climbs signals (timeOf bytes) more)
-  where
-    rest : Bool → List Entry
-    rest b =
-        cond b (entryOf signals (recordsOf signals) bytes ∷ acceptedAfter signals (timeOf bytes) more)
-        (acceptedAfter signals last more)
-
-    go : Judged last bytes → Climbs last (acceptedAfter signals last more)
-        → Climbs (timeOf bytes) (acceptedAfter signals (timeOf bytes) more) → Climbs last (rest (accepts last bytes))
-    go (taken a w h) x y = subst (λ b. Climbs last (rest b)) (sym a) (h, y)
-    go (wrong a w) x y = subst (λ b. Climbs last (rest b)) (sym a) x
-    go (early a w h) x y = subst (λ b. Climbs last (rest b)) (sym a) x
-
-pub accepted-below : (signals : List ℕ) (last : ℕ) (records : List (List ℕ))
-    → Below (recordsOf signals) (acceptedAfter signals last records)
-unfolding acceptedAfter
-accepted-below signals last [] = tt
-accepted-below signals last (bytes ∷ more) =
-    go (accepts last bytes) (accepted-below signals last more) (accepted-below signals (timeOf bytes) more)
-  where
-    go : (b : Bool) → Below (recordsOf signals) (acceptedAfter signals last more)
-        → Below (recordsOf signals) (acceptedAfter signals (timeOf bytes) more)
-        → Below (recordsOf signals)
-        (cond b (entryOf signals (recordsOf signals) bytes ∷ acceptedAfter signals (timeOf bytes) more)
-        (acceptedAfter signals last more))
-    go true x y = (entry-below signals (recordsOf signals) bytes, y)
-    go false x y = x
-
 -- the time of the last record of a log, after time t
 abbrev lastFrom : ℕ → List Entry → ℕ
 lastFrom t [] = t
@@ -137,36 +104,89 @@ last-is [] = refl
 last-is (e ∷ es) =
     let q : length es ≡ length (e ∷ es) - 1 = omega arith in last-from e es ∙ ap (λ i. timeAt (e ∷ es) i) q
 
--- the accepted records of two parts: of the first, and of the second after the last of these
-accepted-parts : (signals : List ℕ) (t : ℕ) (records more : List (List ℕ))
-    → acceptedAfter signals t (records ++ more)
-    ≡ acceptedAfter signals t records ++ acceptedAfter signals (lastFrom t (acceptedAfter signals t records)) more
-unfolding acceptedAfter entryOf
-accepted-parts signals t [] more = refl
-accepted-parts signals t (bytes ∷ rest) more =
-    go (accepts t bytes) (accepted-parts signals t rest more) (accepted-parts signals (timeOf bytes) rest more)
+climbs-more : (t : ℕ) (log : List Entry) (e : Entry) → Climbs t log → lastFrom t log ≤ e .time
+    → Climbs t (log ++ (e ∷ []))
+climbs-more t [] e c h = (h, tt)
+climbs-more t (d ∷ log) e c h = (c .0, climbs-more (d .time) log e (c .1) h)
+
+-- a log as accepted records make it: signals stay within the list, and times never fall
+pub record Right (signals : List ℕ) (log : List Entry) : Type 0 where
+  pub below : Below (recordsOf signals) log
+  pub climbs : Climbs 0 log
+
+pub right-rising : (signals : List ℕ) (log : List Entry) → Right signals log → Rising log
+right-rising signals [] r = λ i j h l. let z : ⊥ = omega arith in absurd z
+right-rising signals (e ∷ es) r = climbs-rising e es (r .climbs .1)
+
+pub right-none : (signals : List ℕ) → Right signals []
+right-none signals = record { below = tt; climbs = tt }
+
+pub right-more : (signals : List ℕ) (log : List Entry) (bytes : List ℕ) → Right signals log
+    → lastTime log ≤ timeOf bytes → Right signals (logWith signals log bytes)
+unfolding logWith entryOf
+right-more signals log bytes r h =
+    let e : Entry = entryOf signals (recordsOf signals) bytes in
+    record {
+      below = below-more (recordsOf signals) log (e ∷ []) (r .below) (entry-below signals (recordsOf signals) bytes, tt);
+      climbs = climbs-more 0 log e (r .climbs) (subst (λ t. t ≤ timeOf bytes) (sym (last-is log)) h);
+    }
+
+-- calls keep it so
+pub right-further : (signals : List ℕ) (course : Course) (c : Call) → Right signals (logIn course)
+    → Right signals (logIn (further signals course c))
+unfolding further logIn
+right-further signals (going log) (feeding bytes) r = go (judge log bytes)
   where
-    e : Entry
-    e = entryOf signals (recordsOf signals) bytes
+    go : Judged log bytes → Right signals (cond (accepts log bytes) (logWith signals log bytes) log)
+    go (taken a w h) =
+        subst (λ b. Right signals (cond b (logWith signals log bytes) log)) (sym a) (right-more signals log bytes r h)
+    go (wrong a w) = subst (λ b. Right signals (cond b (logWith signals log bytes) log)) (sym a) r
+    go (early a w h) = subst (λ b. Right signals (cond b (logWith signals log bytes) log)) (sym a) r
+right-further signals (going []) closing r = r
+right-further signals (going (e ∷ es)) closing r = r
+right-further signals (over e es) c r = r
 
-    go : (b : Bool)
-        → acceptedAfter signals t (rest ++ more)
-        ≡ acceptedAfter signals t rest ++ acceptedAfter signals (lastFrom t (acceptedAfter signals t rest)) more
-        → acceptedAfter signals (timeOf bytes) (rest ++ more)
-        ≡ acceptedAfter signals (timeOf bytes) rest
-        ++ acceptedAfter signals (lastFrom (timeOf bytes) (acceptedAfter signals (timeOf bytes) rest)) more
-        → cond b (e ∷ acceptedAfter signals (timeOf bytes) (rest ++ more)) (acceptedAfter signals t (rest ++ more))
-        ≡ cond b (e ∷ acceptedAfter signals (timeOf bytes) rest) (acceptedAfter signals t rest)
-        ++ acceptedAfter signals
-        (lastFrom t (cond b (e ∷ acceptedAfter signals (timeOf bytes) rest) (acceptedAfter signals t rest))) more
-    go true x y = ap (λ es. e ∷ es) y
-    go false x y = x
+pub right-taken : (signals : List ℕ) (log : List Entry) (bytes : List ℕ) → Right signals log → accepts log bytes ≡ true
+    → Right signals (logWith signals log bytes)
+unfolding further logIn
+right-taken signals log bytes r a =
+    subst (λ b. Right signals (cond b (logWith signals log bytes) log)) a
+    (right-further signals (going log) (feeding bytes) r)
 
-pub accepted-more : (signals : List ℕ) (records more : List (List ℕ))
-    → acceptedLog signals (records ++ more)
-    ≡ acceptedLog signals records ++ acceptedAfter signals (lastTime (acceptedLog signals records)) more
-unfolding acceptedLog
-accepted-more signals records more =
-    accepted-parts signals 0 records more
-    ∙ ap (λ t. acceptedAfter signals 0 records ++ acceptedAfter signals t more)
-    (last-is (acceptedAfter signals 0 records))
+pub right-all : (signals : List ℕ) (course : Course) (calls : List Call) → Right signals (logIn course)
+    → Right signals (logIn (furtherBy signals course calls))
+unfolding furtherBy
+right-all signals course [] r = r
+right-all signals course (c ∷ more) r =
+    right-all signals (further signals course c) more (right-further signals course c r)
+
+-- calls one after another, in two parts
+pub further-parts : (signals : List ℕ) (course : Course) (calls more : List Call)
+    → furtherBy signals course (calls ++ more) ≡ furtherBy signals (furtherBy signals course calls) more
+unfolding furtherBy
+further-parts signals course [] more = refl
+further-parts signals course (c ∷ calls) more = further-parts signals (further signals course c) calls more
+
+-- calls only add to a log
+further-one : (signals : List ℕ) (course : Course) (c : Call)
+    → (more : List Entry) × (logIn (further signals course c) ≡ logIn course ++ more)
+unfolding further logIn logWith
+further-one signals (going log) (feeding bytes) = go (accepts log bytes)
+  where
+    go : (b : Bool) → (more : List Entry) × (cond b (logWith signals log bytes) log ≡ log ++ more)
+    go true = (entryOf signals (recordsOf signals) bytes ∷ [], refl)
+    go false = ([], sym (append-nil log))
+further-one signals (going []) closing = ([], refl)
+further-one signals (going (e ∷ es)) closing = ([], sym (append-nil (e ∷ es)))
+further-one signals (over e es) c = ([], sym (append-nil (e ∷ es)))
+
+pub further-log : (signals : List ℕ) (course : Course) (calls : List Call)
+    → (more : List Entry) × (logIn (furtherBy signals course calls) ≡ logIn course ++ more)
+unfolding furtherBy
+further-log signals course [] = ([], sym (append-nil (logIn course)))
+further-log signals course (c ∷ calls) =
+    let one = further-one signals course c in
+    let all = further-log signals (further signals course c) calls in (
+      one .0 ++ all .0,
+      all .1 ∙ ap (λ log. log ++ all .0) (one .1) ∙ append-assoc (logIn course) (one .0) (all .0),
+    )

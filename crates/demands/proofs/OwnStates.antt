@@ -1,7 +1,7 @@
 -- The states that the watcher makes of accepted lists, and that refusal 12 is not given for them.
 -- Assumes nothing.
 use mathlib.Core.Path.{_≡_, refl, sym, ap, ap₂, _∙_}
-use mathlib.Core.Bool.{false, not, _||_, cond}
+use mathlib.Core.Bool.{Bool, true, false, not, _||_, cond}
 use mathlib.Core.List.{List, [], _∷_, _++_}
 use Prim.Native.Nat.{ℕ, _*_, _^_, _≤_, _<_}
 use native.Mathlib.Omega.{arith}
@@ -16,6 +16,7 @@ use Rattle.watcher.specs.declared.state.Watcher.{Watcher}
 use Rattle.watcher.specs.declared.state.Phase.{Phase}
 use Rattle.watcher.specs.declared.state.Phase.the-variants as phase
 use Rattle.watcher.specs.declared.state.Verdict.{Verdict}
+use Rattle.watcher.specs.declared.state.Refusal.{Refusal}
 use Rattle.watcher.specs.declared.state.Refusal.the-variants.{AreaLength}
 use Rattle.watcher.specs.declared.state.Found.the-variants.{Fine, Refused}
 use Rattle.watcher.specs.Limits.{mostRecords, mostSignals, mostParameters, listBytes, areaWords}
@@ -26,7 +27,7 @@ use Rattle.watcher.specs.State.{ruleOf, parametersOf, ruleBytes, listBytesOf, i
 use Rattle.watcher.specs.State.{notZerosBehind, signalsAbove, bitsAbove, notZeroFrom, wrongRows, wrongInPhase}
 use Rattle.watcher.specs.State.{brokenState}
 use Rattle.watcher.specs.Calls.{wrongArea, startRefusal, padded}
-use Rattle.watcher.specs.Runs.{readRule, parametersIn}
+use Rattle.demands.specs.Rewritten.{readRule, parametersIn}
 use Rattle.watcher.proofs.Decoded.{Accepted, fine-tests, tests-fine, first-fine, length-fine, Whole}
 use Rattle.watcher.proofs.Decoded.{accepted-list, accepted-few}
 use Rattle.watcher.proofs.Refusing.{length-most}
@@ -50,6 +51,23 @@ first-join [] us e = refl
 first-join (t ∷ ts) us e =
     let a = first-fine (t .holds) (t .gives) (firstRefusal ts) e in
     ap (λ x. cond x (Refused (t .gives)) (firstRefusal (ts ++ us))) (a .0) ∙ first-join ts us (a .1)
+
+first-refused : (ts us : List Test) (r : Refusal) → firstRefusal ts ≡ Refused r → firstRefusal (ts ++ us) ≡ Refused r
+unfolding firstRefusal
+first-refused [] us r e = let z : _≡_ {A = ℕ} 0 1 = cc in let n : ⊥ = omega arith in absurd n
+first-refused (t ∷ ts) us r e = go (t .holds) (first-refused ts us r) e
+  where
+    go : (b : Bool) → (firstRefusal ts ≡ Refused r → firstRefusal (ts ++ us) ≡ Refused r)
+        → cond b (Refused (t .gives)) (firstRefusal ts) ≡ Refused r
+        → cond b (Refused (t .gives)) (firstRefusal (ts ++ us)) ≡ Refused r
+    go true rest e = e
+    go false rest e = rest e
+
+-- start refuses lists that do not pass, whatever the area
+pub start-refuses : (rule signals ws : List ℕ) (r : Refusal) → listsRefusal rule signals ≡ Refused r
+    → startRefusal rule signals ws ≡ Refused r
+unfolding startRefusal listsRefusal
+start-refuses rule signals ws r e = first-refused (listTests rule signals) _ r e
 
 -- start accepts lists that pass with an area of 1,664 words, and nothing else
 pub start-accepts : (rule signals ws : List ℕ) → listsRefusal rule signals ≡ Fine → length ws ≡ areaWords

@@ -28,7 +28,7 @@ use Rattle.watcher.specs.Lists.{Test, firstRefusal}
 use Rattle.watcher.specs.Calls.{wrongArea, stateTests, startRefusal, feedRefusal, closeRefusal, zeroState}
 use Rattle.watcher.specs.Calls.{startWith, startOf, feedWith, feedOf, closeWith, closeOf, knownNext, knownNow}
 use Rattle.watcher.specs.Calls.{runningState, closedState}
-use Rattle.watcher.specs.Runs.{Alike}
+use Rattle.demands.specs.Areas.{Alike}
 use Rattle.watcher.proofs.HeldLaws.{held-few}
 use Rattle.watcher.proofs.Decoded.{neither, first-fine}
 

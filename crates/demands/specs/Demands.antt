@@ -1,73 +1,150 @@
--- The owner's second and third demand (document 00) over bytes: for every rule and signal list that start accepts,
--- every area of 1,664 words, and every run. Records that are refused count for nothing.
+-- The owner's three demands (document 00), of three functions with the types of start, feed and close, on everything
+-- that a machine can hand in. `crates/watcher` has the functions, and each demand is proved of any that meet its clauses.
 use mathlib.Core.Path.{_≡_}
-use mathlib.Core.Bool.{Bool, true}
+use mathlib.Core.Bool.{Bool, true, not, cond}
 use mathlib.Core.List.{List, [], _∷_, _++_}
-use Prim.Native.Nat.{ℕ, _+_, _<_}
-use lib.ListN.{length}
-use Rattle.meaning.specs.Rule.{timeAt}
+use Prim.Native.Nat.{ℕ, _+_, _≤_, _<_}
+use lib.Dec.{eqb}
+use Rattle.meaning.specs.Rule.{Entry, holds, timeAt, Rising}
 use Rattle.meaning.specs.Meaning.{valueOf}
-use Rattle.meaning.specs.Horizon.{within}
+use Rattle.meaning.specs.Horizon.{within, horizon}
+use Rattle.meaning.proofs.Horizons.{AllFinite}
+use Rattle.rewriting.specs.Decode.{byteOf}
+use Rattle.watcher.specs.declared.state.Watcher.{Watcher}
 use Rattle.watcher.specs.declared.state.Word.{Word}
+use Rattle.watcher.specs.declared.state.Verdict.{Verdict}
 use Rattle.watcher.specs.declared.state.Answer.{Answer}
 use Rattle.watcher.specs.declared.state.Answer.the-variants.{Accepted, Refused}
 use Rattle.watcher.specs.declared.state.End.the-variants.{Closed}
-use Rattle.watcher.specs.declared.state.Found.the-variants.{Fine}
-use Rattle.watcher.specs.Records.{timeOf}
+use Rattle.watcher.specs.Limits.{mostSignals}
+use Rattle.watcher.specs.Signals.{limitOf}
+use Rattle.watcher.specs.Records.{timeOf, entryOf}
+use Rattle.watcher.specs.Speed.{notSlower, perSecond, windSpeed}
 use Rattle.watcher.specs.Numbers.{saying, verdictFor}
-use Rattle.watcher.specs.Calls.{startRefusal, waitOf}
-use Rattle.watcher.specs.Runs.{answerTo, ran, endOf, accepts, acceptedLog, lastTime, readRule, heldAfter}
-use Rattle.watcher.specs.Runs.{wordAfter, decided}
+use Rattle.watcher.specs.Calls.{zeroState}
+use Rattle.watcher.specs.Machine.{MachineBytes, MachineWords, MachineState}
+use Rattle.watcher.specs.Runs.{decided}
+use Rattle.demands.specs.Watching.{Three, Call, feeding, told, ending, reached, MachineCalls, Begun}
+use Rattle.demands.specs.Logs.{accepts, logWith, going, courseOf, logOf}
+use Rattle.demands.specs.Rewritten.{readRule, heldIn, wordAfter}
+use Rattle.demands.specs.Tables.{startTable, feedTable, closeTable, foundIn, foundAt, Carries, AsTable}
 
 -- the record was accepted with this word
 unfoldable pub Says : Answer → Word → Type 0
 Says (Accepted report) w = report .word ≡ w
 Says (Refused r) w = ⊥
 
-module _ (rule signals ws : List ℕ) where
-  -- a log's value: that of the rule at the first accepted record
-  abbrev pub valueAfter : List (List ℕ) → Bool
-  valueAfter records = valueOf (acceptedLog signals records) (readRule rule)
+-- Demand 1: everything handed in gets an answer, and a refusal carries the number from the table, is given exactly
+-- when the table says, and changes neither state nor work area; a refused start gives a fresh state of zeros.
+pub record Demand1 (f : Three) : Type 0 where
+  pub start : (rule signals ws : List ℕ) → MachineBytes rule → MachineBytes signals → MachineWords ws
+      → AsTable (startTable rule signals ws) (f .start rule signals ws .0 .found)
+  pub feed : (w : Watcher) (bytes ws : List ℕ) → MachineState w → MachineBytes bytes → MachineWords ws
+      → AsTable (feedTable w bytes ws) (foundIn (f .feed w bytes ws .0 .answer))
+  pub close : (w : Watcher) (ws : List ℕ) → MachineState w → MachineWords ws
+      → AsTable (closeTable w ws) (foundAt (f .close w ws .0 .answer))
+  pub start-stays : (rule signals ws : List ℕ) → MachineBytes rule → MachineBytes signals → MachineWords ws → (n : ℕ)
+      → Carries (f .start rule signals ws .0 .found) n
+      → (f .start rule signals ws .0 .next ≡ zeroState) × (f .start rule signals ws .1 ≡ ws)
+  pub feed-stays : (w : Watcher) (bytes ws : List ℕ) → MachineState w → MachineBytes bytes → MachineWords ws → (n : ℕ)
+      → Carries (foundIn (f .feed w bytes ws .0 .answer)) n
+      → (f .feed w bytes ws .0 .next ≡ w) × (f .feed w bytes ws .1 ≡ ws)
+  pub close-stays : (w : Watcher) (ws : List ℕ) → MachineState w → MachineWords ws → (n : ℕ)
+      → Carries (foundAt (f .close w ws .0 .answer)) n
+      → (f .close w ws .0 .next ≡ w) × (f .close w ws .1 ≡ ws)
 
-  -- demand 2: closing reports the value
+-- Demand 2, of a run: start accepted rule and signals, then come any calls, with state and work area handed on untouched.
+module _ (f : Three) (rule signals ws : List ℕ) where
+  -- closing the log reports the value that the rule has at its first record
   abbrev pub ClosingReports : Type 0
   ClosingReports =
-      startRefusal rule signals ws ≡ Fine → (records : List (List ℕ)) → 0 < length (acceptedLog signals records)
-      → endOf (ran rule signals ws records) ≡ Closed (verdictFor (valueAfter records))
+      Begun f rule signals ws → (calls : List Call) → MachineCalls calls → (e : Entry) (es : List Entry)
+      → courseOf signals calls ≡ going (e ∷ es)
+      → ending f (reached f rule signals ws calls) ≡ Closed (verdictFor (valueOf (e ∷ es) (readRule rule)))
 
-  -- demand 2: after any records state and work area are exactly what the rewriting gives for the accepted ones
+  -- after any calls state and work area are exactly what the rewriting gives for the accepted records
   abbrev pub StateIsRewritten : Type 0
   StateIsRewritten =
-      startRefusal rule signals ws ≡ Fine → (records : List (List ℕ))
-      → ran rule signals ws records ≡ heldAfter rule signals (acceptedLog signals records)
+      Begun f rule signals ws → (calls : List Call) → MachineCalls calls
+      → reached f rule signals ws calls ≡ heldIn rule signals (courseOf signals calls)
 
-  -- demand 2: and so is the word after each accepted record
+  -- and so is the word after each accepted record
   abbrev pub WordIsRewritten : Type 0
   WordIsRewritten =
-      startRefusal rule signals ws ≡ Fine → (records : List (List ℕ)) (bytes : List ℕ)
-      → accepts (lastTime (acceptedLog signals records)) bytes ≡ true
-      → Says (answerTo (ran rule signals ws records) bytes)
-      (saying (wordAfter rule (acceptedLog signals (records ++ (bytes ∷ [])))))
+      Begun f rule signals ws → (calls : List Call) → MachineCalls calls → (log : List Entry)
+      → courseOf signals calls ≡ going log → (bytes : List ℕ) → MachineBytes bytes → accepts log bytes ≡ true
+      → Says (told f (reached f rule signals ws calls) bytes) (saying (wordAfter rule (logWith signals log bytes)))
 
-  -- demand 3: if a record gets the word kept (broken), every continuation, and stopping there, makes the rule true
-  -- (false) of the whole log
+-- a wind signal compares exact speeds, whatever the unit: "at least" (0) holds where the wind is not slower than the
+-- limit, "below" (1) otherwise
+abbrev pub WindIsExact : Type 0
+WindIsExact =
+    (list : List ℕ) (count n : ℕ) (bytes : List ℕ) → n < count → count ≤ mostSignals → byteOf list n 0 ≡ 2
+    → holds (entryOf list count bytes) n
+    ≡ (let met : Bool = notSlower (windSpeed bytes) (perSecond (limitOf list n)) in
+    cond (eqb (byteOf list n 1) 0) met (not met))
+
+pub record Demand2 (f : Three) : Type 0 where
+  pub reports : (rule signals ws : List ℕ) → ClosingReports f rule signals ws
+  pub state : (rule signals ws : List ℕ) → StateIsRewritten f rule signals ws
+  pub word : (rule signals ws : List ℕ) → WordIsRewritten f rule signals ws
+  pub wind : WindIsExact
+
+-- Demand 3, of a run in which a record gets the word kept (broken).
+pub record Decides (f : Three) (rule signals ws : List ℕ) (calls : List Call) (bytes : List ℕ) (b : Bool) : Type 0 where
+  pub begun : Begun f rule signals ws
+  pub called : MachineCalls calls
+  pub fed : MachineBytes bytes
+  pub says : Says (told f (reached f rule signals ws calls) bytes) (decided b)
+
+module _ (f : Three) (rule signals ws : List ℕ) where
+  -- every continuation with times that never fall, and stopping there, makes the rule true (false) of the whole log
   abbrev pub WordHolds : Type 0
   WordHolds =
-      startRefusal rule signals ws ≡ Fine → (records : List (List ℕ)) (bytes : List ℕ) (b : Bool)
-      → Says (answerTo (ran rule signals ws records) bytes) (decided b) → (more : List (List ℕ))
-      → valueAfter (records ++ (bytes ∷ more)) ≡ b
+      (calls : List Call) (bytes : List ℕ) (b : Bool) → Decides f rule signals ws calls bytes b → (more : List Entry)
+      → Rising (logOf signals (calls ++ (feeding bytes ∷ [])) ++ more)
+      → valueOf (logOf signals (calls ++ (feeding bytes ∷ [])) ++ more) (readRule rule) ≡ b
 
-  -- demand 3: no later record alters that word
+  -- no later record alters that word, whatever is called in between
   abbrev pub WordStays : Type 0
   WordStays =
-      startRefusal rule signals ws ≡ Fine → (records : List (List ℕ)) (bytes : List ℕ) (b : Bool)
-      → Says (answerTo (ran rule signals ws records) bytes) (decided b) → (more : List (List ℕ)) (later : List ℕ)
-      → (w : Word) → Says (answerTo (ran rule signals ws (records ++ (bytes ∷ more))) later) w → w ≡ decided b
+      (calls : List Call) (bytes : List ℕ) (b : Bool) → Decides f rule signals ws calls bytes b → (more : List Call)
+      → MachineCalls more → (later : List ℕ) → MachineBytes later → (w : Word)
+      → Says (told f (reached f rule signals ws (calls ++ (feeding bytes ∷ more))) later) w → w ≡ decided b
 
-  -- demand 3: with a horizon, a record whose time is past the first accepted record's by more is decided
-  abbrev pub DecidedInTime : Type 0
-  DecidedInTime =
-      startRefusal rule signals ws ≡ Fine → (records : List (List ℕ)) (bytes : List ℕ) (h : ℕ)
-      → waitOf (ran rule signals ws records .state) ≡ within h → (w : Word)
-      → Says (answerTo (ran rule signals ws records) bytes) w
-      → timeAt (acceptedLog signals (records ++ (bytes ∷ []))) 0 + h < timeOf bytes → (b : Bool) × (w ≡ decided b)
+  -- and closing agrees with it
+  abbrev pub ClosingAgrees : Type 0
+  ClosingAgrees =
+      (calls : List Call) (bytes : List ℕ) (b : Bool) → Decides f rule signals ws calls bytes b → (more : List Call)
+      → MachineCalls more → (v : Verdict)
+      → ending f (reached f rule signals ws (calls ++ (feeding bytes ∷ more))) ≡ Closed v → v ≡ verdictFor b
+
+  -- a record whose time is past the first accepted record's by more than h minutes is decided
+  abbrev pub DecidedBy : ℕ → Type 0
+  DecidedBy h =
+      (calls : List Call) → MachineCalls calls → (bytes : List ℕ) → MachineBytes bytes → (w : Word)
+      → Says (told f (reached f rule signals ws calls) bytes) w
+      → timeAt (logOf signals (calls ++ (feeding bytes ∷ []))) 0 + h < timeOf bytes → (b : Bool) × (w ≡ decided b)
+
+  -- a rule whose forward limits are all finite has a horizon, and is decided by it
+  abbrev pub FiniteIsDecided : Type 0
+  FiniteIsDecided =
+      Begun f rule signals ws → AllFinite (readRule rule)
+      → (h : ℕ) × (horizon (readRule rule) ≡ within h) × DecidedBy h
+
+  -- and so is any rule with a horizon: limits that the last record does not reach do not count
+  abbrev pub HorizonDecides : Type 0
+  HorizonDecides = Begun f rule signals ws → (h : ℕ) → horizon (readRule rule) ≡ within h → DecidedBy h
+
+pub record Demand3 (f : Three) : Type 0 where
+  pub holds : (rule signals ws : List ℕ) → WordHolds f rule signals ws
+  pub stays : (rule signals ws : List ℕ) → WordStays f rule signals ws
+  pub agrees : (rule signals ws : List ℕ) → ClosingAgrees f rule signals ws
+  pub finite : (rule signals ws : List ℕ) → FiniteIsDecided f rule signals ws
+  pub horizon : (rule signals ws : List ℕ) → HorizonDecides f rule signals ws
+
+-- all three
+pub record Demands (f : Three) : Type 0 where
+  pub first : Demand1 f
+  pub second : Demand2 f
+  pub third : Demand3 f

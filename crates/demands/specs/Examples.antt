@@ -1,18 +1,31 @@
--- Document 01's starred examples, one to twelve, as one table over bytes, and when a row of it passes.
-use mathlib.Core.Bool.{Bool, true, false, not, _&&_}
+-- Document 01's starred examples, one to twelve, as one table over bytes; when a row of it passes by the definitions
+-- alone, and what start, feed and close then answer.
+use mathlib.Core.Path.{_≡_}
+use mathlib.Core.Bool.{Bool, true, false, _&&_}
 use mathlib.Core.List.{List, [], _∷_, _++_, map}
-use Prim.Native.Nat.{ℕ, _/_, _%_}
+use Prim.Native.Nat.{ℕ, _+_, _/_, _%_}
 use lib.Dec.{eqb}
-use Rattle.meaning.specs.Rule.{Node, Entry, parameters}
+use lib.ListN.{length}
+use Rattle.meaning.specs.Rule.{Node, Entry}
 use Rattle.meaning.specs.Meaning.{valueOf}
+use Rattle.meaning.specs.Horizon.{Horizon, within, never, horizon}
 use Rattle.meaning.specs.Words.{Known, first, feed, close, Word, kept, broken, pending, word}
 use Rattle.watcher.specs.declared.state.Found.{Found}
 use Rattle.watcher.specs.declared.state.Found.the-variants.{Fine, Refused}
-use Rattle.watcher.specs.Numbers.{refusalNumber}
-use Rattle.rewriting.specs.Decode.{ruleIn}
+use Rattle.watcher.specs.declared.state.End.{End}
+use Rattle.watcher.specs.declared.state.End.the-variants as end
+use Rattle.watcher.specs.Limits.{areaWords}
+use Rattle.watcher.specs.Numbers.{refusalNumber, saying, verdictValue}
 use Rattle.watcher.specs.Rules.{recordsOf}
-use Rattle.watcher.specs.Records.{wrongRecord, signalHolds, entryOf}
+use Rattle.watcher.specs.Records.{entryOf}
 use Rattle.watcher.specs.Lists.{listsRefusal}
+use Rattle.watcher.specs.Calls.{startOf, waitOf}
+use Rattle.watcher.specs.Runs.{Held}
+use Rattle.demands.specs.Watching.{defined, feeding, told, ending, handed, reached}
+use Rattle.demands.specs.Logs.{accepts, logWith}
+use Rattle.demands.specs.Rewritten.{readRule, parametersIn}
+use Rattle.demands.specs.Tables.{Carries}
+use Rattle.demands.specs.Demands.{Says}
 
 -- a record of a rule list, and of a signal list ("at least")
 abbrev pub ruleRecord : (kind left right low high : ℕ) → List ℕ
@@ -31,6 +44,13 @@ ruleB = ruleRecord 3 0 0 0 0 ++ ruleRecord 3 1 0 0 0 ++ ruleRecord 9 0 1 1 1 ++ 
 
 abbrev pub ruleC : List ℕ
 ruleC = ruleRecord 1 0 0 0 0 ++ ruleRecord 5 0 0 0 0
+
+-- signal 0 alone; and a signal, next of it with no upper end, and a last record that reaches neither
+abbrev pub ruleSignal : List ℕ
+ruleSignal = ruleRecord 3 0 0 0 0
+
+abbrev pub ruleUnreached : List ℕ
+ruleUnreached = ruleRecord 3 0 0 0 0 ++ ruleRecord 6 0 0 0 255 ++ ruleRecord 3 1 0 0 0
 
 -- signals 0 and 1: the lee vent is at least 1, the windward vent is at least 1
 abbrev pub vents : List ℕ
@@ -54,12 +74,14 @@ windRecord unit wind =
 
 -- a rule and a log, the words after each record and at closing;
 -- a wind limit and a unit, with a wind that meets it and those that do not;
--- a rule that is accepted, with its number of parameters, and one that is refused, with the refusal's number
+-- a rule that is accepted, with its number of parameters, and one that is refused, with the refusal's number;
+-- a rule and how long it can stay open
 pub data Row : Type 0 where
   says : (rule : List ℕ) → (log : List (List ℕ)) → (words : List Word) → (closing : Word) → Row
   winds : (limit unit : ℕ) → (meets : ℕ) → (fails : List ℕ) → Row
-  accepts : (rule : List ℕ) → (parameters : ℕ) → Row
-  refuses : (rule : List ℕ) → (number : ℕ) → Row
+  accepted : (rule : List ℕ) → (parameters : ℕ) → Row
+  refused : (rule : List ℕ) → (number : ℕ) → Row
+  waits : (rule : List ℕ) → Horizon → Row
 
 unfoldable pub table : List Row
 table =
@@ -86,13 +108,19 @@ table =
     -- 11
     ∷ winds 120 metresASecond 120 (119 ∷ [])
     -- 12
-    ∷ accepts (ruleA 9) 12 ∷ refuses (ruleA 10) 4
+    ∷ accepted (ruleA 9) 12 ∷ refused (ruleA 10) 4
+    -- how long rules A and B can stay open, and one in which what has no upper end is not reached
+    ∷ waits (ruleA 2) (within 2) ∷ waits ruleB never ∷ waits ruleUnreached (within 0)
     ∷ []
 
--- the refusal's number, 0 where there is none
-abbrev pub numberOf : Found → ℕ
-numberOf Fine = 0
-numberOf (Refused r) = refusalNumber r
+-- lists are accepted, or refused with a number
+abbrev pub isFine : Found → Bool
+isFine Fine = true
+isFine (Refused r) = false
+
+abbrev pub refusedWith : ℕ → Found → Bool
+refusedWith n Fine = false
+refusedWith n (Refused r) = eqb (refusalNumber r) n
 
 -- every element of a list passes a test
 abbrev pub allIn : {A : Type 0} → (A → Bool) → List A → Bool
@@ -115,6 +143,11 @@ sameWords [] (w ∷ ws) = false
 sameWords (v ∷ vs) [] = false
 sameWords (v ∷ vs) (w ∷ ws) = eqb (wordNumber v) (wordNumber w) && sameWords vs ws
 
+-- horizons as numbers
+abbrev pub horizonNumber : Horizon → ℕ
+horizonNumber never = 0
+horizonNumber (within h) = 1 + h
+
 module _ (m : ℕ) (rule : List Node) where
   -- the word of what is known, those after each further record, and the word at closing
   abbrev pub wordsFrom : Known m → List Entry → List Word
@@ -125,23 +158,75 @@ module _ (m : ℕ) (rule : List Node) where
   wordsOf [] = []
   wordsOf (e ∷ es) = wordsFrom (first m rule e) es
 
--- the words are those given, and the log's value is the closing word's
-abbrev pub right : List Node → List Entry → List Word → Word → Bool
-right rule log words closing =
-    sameWords (wordsOf (parameters rule) rule log) (words ++ (closing ∷ []))
-    && eqb (wordNumber (valueWord (valueOf log rule))) (wordNumber closing)
+-- the records as the rule sees them, and whether each is accepted after those before it
+abbrev pub seen : (signals : List ℕ) → List (List ℕ) → List Entry
+seen signals records = map (entryOf signals (recordsOf signals)) records
 
--- a wind meets a limit, as signal 0 of a list
-abbrev pub windHolds : (limit unit wind : ℕ) → Bool
-windHolds limit unit wind = signalHolds (signalRecord 2 limit) (windRecord unit wind) 0
+abbrev pub allTaken : (signals : List ℕ) → List Entry → List (List ℕ) → Bool
+allTaken signals log [] = true
+allTaken signals log (bytes ∷ more) = accepts log bytes && allTaken signals (logWith signals log bytes) more
 
--- the definitions say what the row says; under a log, its lists and records are accepted too
+-- lists and records are accepted, the words are those given, and the log's value is the closing word's
+abbrev pub right : (rule signals : List ℕ) → List (List ℕ) → List Word → Word → Bool
+right rule signals log words closing =
+    isFine (listsRefusal rule signals) && allTaken signals [] log
+    && sameWords (wordsOf (parametersIn rule) (readRule rule) (seen signals log)) (words ++ (closing ∷ []))
+    && eqb (wordNumber (valueWord (valueOf (seen signals log) (readRule rule)))) (wordNumber closing)
+
+-- a wind at a limit, as a log of one record for the rule of one signal
+abbrev pub windRight : (limit unit wind : ℕ) → Word → Bool
+windRight limit unit wind w =
+    right ruleSignal (signalRecord 2 limit) (windRecord unit wind ∷ []) (pending ∷ []) w
+
+-- the definitions say what the row says
 unfoldable pub passes : Row → Bool
-passes (says rule log words closing) =
-    eqb (numberOf (listsRefusal rule vents)) 0 && allIn (λ bytes. not (wrongRecord bytes)) log
-    && right (ruleIn rule (recordsOf rule)) (map (entryOf vents (recordsOf vents)) log) words closing
+passes (says rule log words closing) = right rule vents log words closing
 passes (winds limit unit meets fails) =
-    windHolds limit unit meets && allIn (λ wind. not (windHolds limit unit wind)) fails
-passes (accepts rule n) =
-    eqb (numberOf (listsRefusal rule vents)) 0 && eqb (parameters (ruleIn rule (recordsOf rule))) n
-passes (refuses rule number) = eqb (numberOf (listsRefusal rule vents)) number
+    windRight limit unit meets kept && allIn (λ wind. windRight limit unit wind broken) fails
+passes (accepted rule n) = isFine (listsRefusal rule vents) && eqb (parametersIn rule) n
+passes (refused rule number) = refusedWith number (listsRefusal rule vents)
+passes (waits rule h) =
+    isFine (listsRefusal rule vents) && eqb (horizonNumber (horizon (readRule rule))) (horizonNumber h)
+
+-- records fed one after another get these words
+abbrev pub GetWords : Held → List (List ℕ) → List Word → Type 0
+GetWords h [] [] = Unit {0}
+GetWords h [] (w ∷ words) = ⊥
+GetWords h (bytes ∷ more) [] = ⊥
+GetWords h (bytes ∷ more) (w ∷ words) =
+    Says (told defined h bytes) (saying w) × GetWords (handed defined h (feeding bytes)) more words
+
+-- closing gets a verdict that says this
+unfoldable pub EndsWith : End → Word → Type 0
+EndsWith (end.Closed v) w = valueWord (verdictValue v) ≡ w
+EndsWith (end.Refused r) w = ⊥
+
+-- a run with a work area: it is started, its records get these words, and closing says this
+pub record Run (rule signals : List ℕ) (log : List (List ℕ)) (words : List Word) (closing : Word) (ws : List ℕ) : Type 0
+  where
+    pub starts : startOf rule signals ws .0 .found ≡ Fine
+    pub told : GetWords (reached defined rule signals ws []) log words
+    pub ends : EndsWith (ending defined (reached defined rule signals ws (map feeding log))) closing
+
+abbrev pub WindRun : (limit unit wind : ℕ) → Word → List ℕ → Type 0
+WindRun limit unit wind w ws =
+    Run ruleSignal (signalRecord 2 limit) (windRecord unit wind ∷ []) (pending ∷ []) w ws
+
+-- every element of a list
+abbrev pub AllOf : {A : Type 0} → (A → Type 0) → List A → Type 0
+AllOf P [] = Unit {0}
+AllOf P (x ∷ xs) = P x × AllOf P xs
+
+-- start, feed and close answer what the row says, with every work area of 1,664 words
+unfoldable pub Answers : Row → Type 0
+Answers (says rule log words closing) =
+    (ws : List ℕ) → length ws ≡ areaWords → Run rule vents log words closing ws
+Answers (winds limit unit meets fails) =
+    (ws : List ℕ) → length ws ≡ areaWords
+    → WindRun limit unit meets kept ws × AllOf (λ wind. WindRun limit unit wind broken ws) fails
+Answers (accepted rule n) =
+    (parametersIn rule ≡ n) × ((ws : List ℕ) → length ws ≡ areaWords → startOf rule vents ws .0 .found ≡ Fine)
+Answers (refused rule number) = (ws : List ℕ) → Carries (startOf rule vents ws .0 .found) number
+Answers (waits rule h) =
+    (ws : List ℕ) → length ws ≡ areaWords
+    → (startOf rule vents ws .0 .found ≡ Fine) × (waitOf (startOf rule vents ws .0 .next) ≡ h)

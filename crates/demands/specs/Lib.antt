@@ -1,3 +1,9 @@
+pub mod Watching
+pub mod Logs
+pub mod Rewritten
+pub mod Areas
+pub mod Tables
 pub mod Demands
+pub mod OwnWork
 pub mod BadWatchers
 pub mod Examples

@@ -15,3 +15,4 @@ pub mod Testing
 pub mod TurnLaws
 pub mod Turning
 pub mod OnlyOne
+pub mod Machines

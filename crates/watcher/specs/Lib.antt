@@ -8,6 +8,7 @@ pub mod Numbers
 pub mod State
 pub mod Calls
 pub mod Runs
+pub mod Machine
 pub mod Shapes
 pub mod Turns
 pub mod Horizons
