@@ -10,12 +10,12 @@ use Rattle.forms.specs.Form.{constant, same}
 use Rattle.forms.proofs.Reading.{same-refl, same-not, constants-differ}
 use Rattle.meaning.specs.Rule.{Ordered, Entry, entryAt, timeAt, Rising}
 use Rattle.meaning.specs.Meaning.{valueOf}
-use Rattle.meaning.specs.Horizon.{within, never, horizon}
+use Rattle.meaning.specs.Horizon.{within, never, horizon, AllFinite}
 use Rattle.meaning.specs.Words.{Known, first, feed, fed, close, valueIfLast, after, word}
 use Rattle.meaning.specs.Words as words
 use Rattle.meaning.proofs.Blocks.{firstOf-fits}
 use Rattle.meaning.proofs.Theorems.{wordOf, close-value, close-word, word-decides, decided-stays}
-use Rattle.meaning.proofs.Horizons.{AllFinite, finite-horizon}
+use Rattle.meaning.proofs.Horizons.{finite-horizon}
 use Rattle.meaning.proofs.Settling.{Climbs, climbs-rising, settled-word}
 use Rattle.watcher.specs.declared.state.Phase.{Phase}
 use Rattle.watcher.specs.declared.state.Phase.the-variants as phase

@@ -9,10 +9,9 @@ use lib.ListN.{length, length-append}
 use Rattle.forms.specs.Area.{rowAt}
 use Rattle.meaning.specs.Rule.{Entry, timeAt, Rising}
 use Rattle.meaning.specs.Meaning.{valueOf}
-use Rattle.meaning.specs.Horizon.{within, horizon}
+use Rattle.meaning.specs.Horizon.{within, horizon, AllFinite}
 use Rattle.meaning.specs.Words as words
 use Rattle.meaning.proofs.Theorems.{wordOf}
-use Rattle.meaning.proofs.Horizons.{AllFinite}
 use Rattle.watcher.specs.declared.state.Word.{Word}
 use Rattle.watcher.specs.declared.state.Word.the-variants as told
 use Rattle.watcher.specs.declared.state.Answer.{Answer}
