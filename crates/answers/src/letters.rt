@@ -5,21 +5,14 @@ use watcher::state::Refusal;
 use watcher::state::Verdict;
 use watcher::state::Word;
 
-// A refusal's number as a digit.
+// The digit of a refusal's number; a question mark where it has none.
 pub(crate) fn refusal_letter(refusal: Refusal) -> u8 {
-    match refusal {
-        Refusal::RuleLength => b'1',
-        Refusal::RuleRecord => b'2',
-        Refusal::RuleTwins => b'3',
-        Refusal::RuleParameters => b'4',
-        Refusal::SignalList => b'5',
-        Refusal::SignalMissing => b'6',
-        Refusal::AreaLength => b'7',
-        Refusal::LogRecord => b'8',
-        Refusal::LogTime => b'9',
-        Refusal::AlreadyClosed => b'a',
-        Refusal::NothingFed => b'b',
-        Refusal::BrokenState => b'c',
+    let digits = b"0123456789abcdef";
+    let number = refusal.number();
+    if number < digits.len() {
+        digits[number]
+    } else {
+        b'?'
     }
 }
 

@@ -14,6 +14,7 @@ use Rattle.meaning.specs.Interval.{to, moved}
 use Rattle.meaning.specs.Rule.{Node, fixed, signal, both, either, next, until, previous, since, nodeAt, Earlier}
 use Rattle.meaning.specs.Rule.{Ordered, count, firstOf, shiftedNode}
 use Rattle.meaning.specs.Horizon.{Horizon, within, never, larger, later, horizonOf, horizons, horizon}
+use Rattle.meaning.specs.Horizon.{Bounded, Finite, AllFinite}
 use Rattle.meaning.proofs.Blocks.{block-low, length-one, one-new}
 use Rattle.meaning.proofs.Intervals.{between-gives}
 
@@ -105,25 +106,6 @@ module _ (rule : List Node) where
   pub horizons-new : (k : ℕ) → getD (horizons rule (suc k)) k never ≡ horizonOf (horizons rule k) (nodeAt rule k)
   unfolding horizons
   horizons-new k = one-new (horizons rule k) (horizonOf (horizons rule k) (nodeAt rule k)) k never (length-horizons k)
-
--- the interval has an upper end
-unfoldable pub Bounded : Interval → Type 0
-Bounded (between low high) = Unit {0}
-Bounded (onward low) = ⊥
-
--- a next or an until has an interval with an upper end
-unfoldable pub Finite : Node → Type 0
-Finite (fixed b) = Unit {0}
-Finite (signal s) = Unit {0}
-Finite (both l r) = Unit {0}
-Finite (either l r) = Unit {0}
-Finite (next l v) = Bounded v
-Finite (until l r v) = Bounded v
-Finite (previous l v) = Unit {0}
-Finite (since l r v) = Unit {0}
-
-abbrev pub AllFinite : List Node → Type 0
-AllFinite rule = (k : ℕ) → Finite (nodeAt rule k)
 
 -- there is a horizon
 abbrev Some : Horizon → Type 0

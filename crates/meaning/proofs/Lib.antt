@@ -15,6 +15,8 @@ pub mod NotRewriteable
 pub mod Shapes
 pub mod Reach
 pub mod Whole
+pub mod EveryRecord
+pub mod OnlyOne
 pub mod Horizons
 pub mod Keeping
 pub mod Settling

@@ -35,6 +35,10 @@ abbrev pub LooksBack : List Node → (m : ℕ) → List (Form m) → ℕ → Typ
 LooksBack rule m rows K =
     Rows rule (constant m false) (λ k n f. DependsOn (Below rule (reach (nodeAt rule k) k)) m f) rows K
 
+-- where there are no rows each is false
+pub none-back : (rule : List Node) (m K : ℕ) → LooksBack rule m [] K
+none-back rule m K k n h c = depends-constant (Below rule (reach (nodeAt rule k) k)) m false
+
 -- a record's form depends on what the forms that it is made of do, and on its first parameter
 form-depends : (S : ℕ → Type 0) (m : ℕ) (forms : List (Form m)) (first k : ℕ) (d : Node) → Earlier k d
     → ((l : ℕ) → l < k → DependsOn S m (formIn m forms l)) → (0 < count d → DependsOn S m (parameter m first))

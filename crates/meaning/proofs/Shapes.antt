@@ -17,7 +17,7 @@ use Rattle.meaning.specs.Rule.{Node, fixed, signal, both, either, next, 
 use Rattle.meaning.specs.Rule.{nodeAt, count, firstOf, Entry, holds}
 use Rattle.meaning.specs.Rewriting.{Neighbour, none, at, put, onlyIf, rowTo, formsOf}
 use Rattle.meaning.specs.Rewriting.{previousRow, sinceEarlier, pastRow, pastRows, derivedRows}
-use Rattle.meaning.specs.Words.{Known, first, feed, fed}
+use Rattle.meaning.specs.Words.{Known, first, feed, fed, after}
 use Rattle.meaning.proofs.Looking.{Future}
 use Rattle.meaning.proofs.Blocks.{firstOf-more, firstOf-mono, Place, place-grows, place, node-one}
 use Rattle.meaning.proofs.Blocks.{Rows, rows-none, rows-more, length-pastRows}
@@ -250,3 +250,7 @@ module _ (rule : List Node) (m : ℕ) (fits : (k : ℕ) → firstOf rule k ≤ m
   unfolding fed
   fed-shape s [] h = h
   fed-shape s (e ∷ es) h = fed-shape (feed m rule s e) es (feed-shape s e)
+
+  pub after-shape : (e : Entry) (es : List Entry) → KnownShape rule m (after m rule e es)
+  unfolding after
+  after-shape e es = fed-shape (first m rule e) es (first-shape e)

@@ -154,14 +154,16 @@ module _ (m : ℕ) (forms forms′ derived past past′ : List (Form m)) (k : �
       (earlier-same first l v n (e .time) before (o .0) (own (λ u. u)))
 
 module _ (rule : List Node) (ordered : Ordered rule) (m : ℕ) (fits : (k : ℕ) → firstOf rule k ≤ m) (K : ℕ) where
-  -- each derived row is made of all forms and all derived rows, for all past rows of the shape
-  pub derived-whole : (past : List (Form m)) (e : Entry) (later : Neighbour) → Shaped rule m e past K → (k n : ℕ)
-      → k < K → n < count (nodeAt rule k) → formIn m (derivedRows m rule past e later K) (firstOf rule k + n)
-      ≡ derivedRow m past (formsOf m rule K) (derivedRows m rule past e later K) e later (firstOf rule k)
+  -- record k's derived row is made of all forms and of any rows that begin with those of the earlier records,
+  -- for all past rows of the shape
+  pub derived-row : (past : List (Form m)) (e : Entry) (later : Neighbour) → Shaped rule m e past K
+      → (all : List (Form m)) (k n : ℕ) → k < K → n < count (nodeAt rule k)
+      → ((q : ℕ) → Below rule k q → formIn m (derivedRows m rule past e later k) q ≡ formIn m all q)
+      → derivedRow m past (formsOf m rule k) (derivedRows m rule past e later k) e later (firstOf rule k)
       (nodeAt rule k) n
-  derived-whole past e later shaped k n h c =
-      derived-made m rule past e later k K n h c
-      ∙ derivedRow-same m past forms (formsOf m rule K) few all k known
+      ≡ derivedRow m past (formsOf m rule K) all e later (firstOf rule k) (nodeAt rule k) n
+  derived-row past e later shaped all k n h c begin =
+      derivedRow-same m past forms (formsOf m rule K) few all k known
       (λ l b. same (formIn m forms l) (forms-back rule ordered m fits k l b) ∙ ap (λ f. put m f all) (known l b))
       e later (firstOf rule k) n (nodeAt rule k) (ordered k)
       (λ u. same (formIn m past (firstOf rule k + n)) (λ ρ ρ′ a.
@@ -173,24 +175,21 @@ module _ (rule : List Node) (ordered : Ordered rule) (m : ℕ) (fits : (k : ℕ)
       few : List (Form m)
       few = derivedRows m rule past e later k
 
-      all : List (Form m)
-      all = derivedRows m rule past e later K
-
       known : (l : ℕ) → l < k → formIn m (formsOf m rule k) l ≡ formIn m (formsOf m rule K) l
       known l b = sym (forms-whole m rule k K l (omega arith) b)
 
-      same : (f : Form m) → DependsOn (Below rule k) m f
-          → put m f (derivedRows m rule past e later k) ≡ put m f (derivedRows m rule past e later K)
-      same f d = put-same m rule f few all k d (λ q b. sym (derived-more m rule past e later k K q (omega arith) b))
+      same : (f : Form m) → DependsOn (Below rule k) m f → put m f (derivedRows m rule past e later k) ≡ put m f all
+      same f d = put-same m rule f few all k d begin
 
-  -- each past row is made of all forms and all past rows, for all derived rows that look back
-  pub past-whole : (derived : List (Form m)) (e : Entry) (before : Neighbour) → LooksBack rule m derived K → (k n : ℕ)
-      → k < K → n < count (nodeAt rule k) → formIn m (pastRows m rule derived e before K) (firstOf rule k + n)
-      ≡ pastRow m (formsOf m rule K) derived (pastRows m rule derived e before K) e before (firstOf rule k)
+  -- record k's past row likewise, for all derived rows that look back
+  pub past-row : (derived : List (Form m)) (e : Entry) (before : Neighbour) → LooksBack rule m derived K
+      → (all : List (Form m)) (k n : ℕ) → k < K → n < count (nodeAt rule k)
+      → ((q : ℕ) → Below rule k q → formIn m (pastRows m rule derived e before k) q ≡ formIn m all q)
+      → pastRow m (formsOf m rule k) derived (pastRows m rule derived e before k) e before (firstOf rule k)
       (nodeAt rule k) n
-  past-whole derived e before back k n h c =
-      past-made m rule derived e before k K n h c
-      ∙ pastRow-same m forms (formsOf m rule K) derived few all k
+      ≡ pastRow m (formsOf m rule K) derived all e before (firstOf rule k) (nodeAt rule k) n
+  past-row derived e before back all k n h c begin =
+      pastRow-same m forms (formsOf m rule K) derived few all k
       (λ l b. same (formIn m forms l) (form-back l b) ∙ ap (λ f. put m f all) (known l b))
       (λ l b.
       same (put m (formIn m forms l) derived)
@@ -207,15 +206,31 @@ module _ (rule : List Node) (ordered : Ordered rule) (m : ℕ) (fits : (k : ℕ)
       few : List (Form m)
       few = pastRows m rule derived e before k
 
-      all : List (Form m)
-      all = pastRows m rule derived e before K
-
       form-back : (l : ℕ) → l < k → DependsOn (Below rule k) m (formIn m (formsOf m rule k) l)
       form-back l b = forms-back rule ordered m fits k l b
 
       known : (l : ℕ) → l < k → formIn m (formsOf m rule k) l ≡ formIn m (formsOf m rule K) l
       known l b = sym (forms-whole m rule k K l (omega arith) b)
 
-      same : (f : Form m) → DependsOn (Below rule k) m f
-          → put m f (pastRows m rule derived e before k) ≡ put m f (pastRows m rule derived e before K)
-      same f d = put-same m rule f few all k d (λ q b. sym (past-more m rule derived e before k K q (omega arith) b))
+      same : (f : Form m) → DependsOn (Below rule k) m f → put m f (pastRows m rule derived e before k) ≡ put m f all
+      same f d = put-same m rule f few all k d begin
+
+  -- each derived row is made of all forms and all derived rows
+  pub derived-whole : (past : List (Form m)) (e : Entry) (later : Neighbour) → Shaped rule m e past K → (k n : ℕ)
+      → k < K → n < count (nodeAt rule k) → formIn m (derivedRows m rule past e later K) (firstOf rule k + n)
+      ≡ derivedRow m past (formsOf m rule K) (derivedRows m rule past e later K) e later (firstOf rule k)
+      (nodeAt rule k) n
+  derived-whole past e later shaped k n h c =
+      derived-made m rule past e later k K n h c
+      ∙ derived-row past e later shaped (derivedRows m rule past e later K) k n h c
+      (λ q b. sym (derived-more m rule past e later k K q (omega arith) b))
+
+  -- each past row is made of all forms and all past rows
+  pub past-whole : (derived : List (Form m)) (e : Entry) (before : Neighbour) → LooksBack rule m derived K → (k n : ℕ)
+      → k < K → n < count (nodeAt rule k) → formIn m (pastRows m rule derived e before K) (firstOf rule k + n)
+      ≡ pastRow m (formsOf m rule K) derived (pastRows m rule derived e before K) e before (firstOf rule k)
+      (nodeAt rule k) n
+  past-whole derived e before back k n h c =
+      past-made m rule derived e before k K n h c
+      ∙ past-row derived e before back (pastRows m rule derived e before K) k n h c
+      (λ q b. sym (past-more m rule derived e before k K q (omega arith) b))

@@ -40,3 +40,23 @@ horizons rule (suc k) = let earlier = horizons rule k in earlier ++ (horizonOf e
 -- the rule's horizon is its last record's
 unfoldable pub horizon : List Node → Horizon
 horizon rule = getD (horizons rule (length rule)) (length rule - 1) never
+
+-- the interval has an upper end
+unfoldable pub Bounded : Interval → Type 0
+Bounded (between low high) = Unit {0}
+Bounded (onward low) = ⊥
+
+-- a next or an until has an interval with an upper end
+unfoldable pub Finite : Node → Type 0
+Finite (fixed b) = Unit {0}
+Finite (signal s) = Unit {0}
+Finite (both l r) = Unit {0}
+Finite (either l r) = Unit {0}
+Finite (next l v) = Bounded v
+Finite (until l r v) = Bounded v
+Finite (previous l v) = Unit {0}
+Finite (since l r v) = Unit {0}
+
+-- every next and until of the rule has one
+abbrev pub AllFinite : List Node → Type 0
+AllFinite rule = (k : ℕ) → Finite (nodeAt rule k)

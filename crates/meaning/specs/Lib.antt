@@ -4,3 +4,4 @@ pub mod Meaning
 pub mod Horizon
 pub mod Rewriting
 pub mod Words
+pub mod Whole
