@@ -11,3 +11,4 @@ pub mod Runs
 pub mod Shapes
 pub mod Turns
 pub mod Horizons
+pub mod Clauses
