@@ -25,6 +25,6 @@ only-close bytes ws = only-one _
 pub only-horizon : (bytes : List ℕ) (o o′ : ℕ) → HorizonClause bytes o → HorizonClause bytes o′ → o ≡ o′
 only-horizon bytes = only-one _
 
-pub only-run : (rule signals log ws codes : List ℕ) (o o′ : ℕ × List ℕ × List ℕ) → RunClause rule signals log ws codes o
-    → RunClause rule signals log ws codes o′ → o ≡ o′
+pub only-run : (rule signals log ws codes : List ℕ) (o o′ : ℕ × List ℕ × List ℕ)
+    → RunClause rule signals log ws codes o → RunClause rule signals log ws codes o′ → o ≡ o′
 only-run rule signals log ws codes = only-one _

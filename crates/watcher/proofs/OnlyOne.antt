@@ -28,7 +28,8 @@ only-check-lists rule signals = only-one _
 pub only-number : (refusal : Refusal) (o o′ : ℕ) → NumberClause refusal o → NumberClause refusal o′ → o ≡ o′
 only-number refusal = only-one _
 
-pub only-wrong-record : (bytes : List ℕ) (o o′ : Bool) → WrongRecordClause bytes o → WrongRecordClause bytes o′ → o ≡ o′
+pub only-wrong-record : (bytes : List ℕ) (o o′ : Bool) → WrongRecordClause bytes o → WrongRecordClause bytes o′
+    → o ≡ o′
 only-wrong-record bytes = only-one _
 
 pub only-time-of : (bytes : List ℕ) (o o′ : ℕ) → TimeOfClause bytes o → TimeOfClause bytes o′ → o ≡ o′
@@ -50,7 +51,8 @@ pub only-feed : (w : Watcher) (bytes ws : List ℕ) (o o′ : Fed × List ℕ) �
     → FeedClause w bytes ws o′ → o ≡ o′
 only-feed w bytes ws = only-one _
 
-pub only-close : (w : Watcher) (ws : List ℕ) (o o′ : Ended × List ℕ) → CloseClause w ws o → CloseClause w ws o′ → o ≡ o′
+pub only-close : (w : Watcher) (ws : List ℕ) (o o′ : Ended × List ℕ) → CloseClause w ws o → CloseClause w ws o′
+    → o ≡ o′
 only-close w ws = only-one _
 
 pub only-horizon : (w : Watcher) (o o′ : Wait) → HorizonClause w o → HorizonClause w o′ → o ≡ o′
