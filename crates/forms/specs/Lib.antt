@@ -4,3 +4,4 @@ pub mod Document
 pub mod Area
 pub mod Rows
 pub mod Steps
+pub mod Clauses

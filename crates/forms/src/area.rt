@@ -1,8 +1,8 @@
 // Rows of 64 words in a lent area: the row at a place is words 64 * place to 64 * place + 63.
 ghost use mathlib.Core.Path.{_≡_};
 ghost use Prim.Native.Nat.{_+_, _*_, min};
-ghost use lib.ListN.{replicate};
-ghost use Rattle.forms.specs.Area.{rowAt, putRows};
+ghost use Rattle.forms.specs.Area.{putRows};
+ghost use Rattle.forms.specs.Clauses.{LoadClause, StoreClause, ClearClause};
 
 // The word at which the count rows from base on end, or the area's end where that comes first.
 fn edge(len: usize, base: usize, count: usize) -> usize
@@ -20,7 +20,7 @@ fn edge(len: usize, base: usize, count: usize) -> usize
 
 // The row at a place; zeros past the area's end.
 pub fn load(area: &[u64], place: usize) -> [u64; 64]
-    ensures { λ r. ⌜ r ≡ rowAt (now (area .entry)) place ⌝ }
+    ensures { λ r. ⌜ LoadClause (now (area .entry)) place r ⌝ }
 {
     let from = edge(area.len(), place, 0);
     let to = edge(area.len(), place, 1);
@@ -44,14 +44,14 @@ fn fill(area: &mut [u64], base: usize, count: usize, row: [u64; 64])
 
 // A row, put at a place; nothing is written past the area's end.
 pub fn store(area: &mut [u64], place: usize, row: [u64; 64])
-    ensures { λ _. ⌜ now (area .exit) ≡ putRows (now (area .entry)) place 1 (λ _. row) ⌝ }
+    ensures { λ _. ⌜ StoreClause (now (area .entry)) place row (now (area .exit)) ⌝ }
 {
     fill(area, place, 1, row);
 }
 
 // Zeros in count rows from base on.
 pub fn clear(area: &mut [u64], base: usize, count: usize)
-    ensures { λ _. ⌜ now (area .exit) ≡ putRows (now (area .entry)) base count (λ _. replicate 64 0) ⌝ }
+    ensures { λ _. ⌜ ClearClause (now (area .entry)) base count (now (area .exit)) ⌝ }
 {
     fill(area, base, count, [0u64; 64]);
 }

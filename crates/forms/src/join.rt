@@ -2,9 +2,8 @@
 use crate::scan::next_term;
 ghost use Prim.Native.Nat.{_<_};
 ghost use Rattle.ground.specs.Bits.{Words};
-ghost use Rattle.forms.specs.Form.{and as andOf};
-ghost use Rattle.forms.specs.Rows.{OfForms};
 ghost use Rattle.forms.specs.Steps.{Joined};
+ghost use Rattle.forms.specs.Clauses.{AndClause};
 
 // Term i with each term of b, added to r: the union of the two is turned over.
 fn join_term(r: &mut [u64; 64], b: &[u64; 64], i: usize)
@@ -21,7 +20,7 @@ fn join_term(r: &mut [u64; 64], b: &[u64; 64], i: usize)
 
 // The row of the conjunction: term against term, passing over absent terms.
 pub fn and(a: [u64; 64], b: [u64; 64]) -> [u64; 64]
-    ensures { λ r. ⌜ OfForms andOf a b r ⌝ }
+    ensures { λ r. ⌜ AndClause a b r ⌝ }
 {
     let mut r = [0u64; 64];
     let mut i = next_term(&a, 0, 4096);

@@ -1,14 +1,10 @@
 // Rows of forms: made, joined and read.
 use crate::join::and;
 use crate::scan::next_term;
-ghost use mathlib.Core.Path.{_≡_};
-ghost use Prim.Native.Nat.{ℕ, _<_};
-ghost use Rattle.ground.specs.Bits.{ofBits};
-ghost use Rattle.forms.specs.Form.{constant as constantOf, parameter as parameterOf};
-ghost use Rattle.forms.specs.Form.{xor as xorOf, or as orOf, names as namesOf};
-ghost use Rattle.forms.specs.Words.{pack, fits as fitsOf};
-ghost use Rattle.forms.specs.Rows.{OfForm, OfForms, whichConstant};
+ghost use Prim.Native.Nat.{_<_};
 ghost use Rattle.forms.specs.Steps.{Alone};
+ghost use Rattle.forms.specs.Clauses.{ConstantClause, ParameterClause, XorClause, OrClause};
+ghost use Rattle.forms.specs.Clauses.{WhichConstantClause, FitsClause, NamesClause};
 
 // Which constant a form is, if any.
 pub enum Truth {
@@ -29,14 +25,14 @@ fn alone(k: usize) -> [u64; 64]
 
 // The row of true, or of false.
 pub fn constant(b: bool) -> [u64; 64]
-    ensures { λ r. ⌜ ((m : ℕ) → r ≡ pack m (constantOf m b)) ⌝ }
+    ensures { λ r. ⌜ ConstantClause b r ⌝ }
 {
     if b { alone(0) } else { [0u64; 64] }
 }
 
 // The row of parameter p of m; a row has room for the first 12.
 pub fn parameter(p: usize, m: usize) -> [u64; 64]
-    ensures { λ r. ⌜ r ≡ pack m (parameterOf m p) ⌝ }
+    ensures { λ r. ⌜ ParameterClause p m r ⌝ }
 {
     if p < m {
         if p < 12 {
@@ -48,7 +44,7 @@ pub fn parameter(p: usize, m: usize) -> [u64; 64]
 
 // The row of the exclusive or: the terms of one row but not of the other.
 pub fn xor(a: [u64; 64], b: [u64; 64]) -> [u64; 64]
-    ensures { λ r. ⌜ OfForms xorOf a b r ⌝ }
+    ensures { λ r. ⌜ XorClause a b r ⌝ }
 {
     let mut r = [0u64; 64];
     for i in 0..64 {
@@ -59,7 +55,7 @@ pub fn xor(a: [u64; 64], b: [u64; 64]) -> [u64; 64]
 
 // The row of the disjunction: "a or b" is a xor b xor (a and b).
 pub fn or(a: [u64; 64], b: [u64; 64]) -> [u64; 64]
-    ensures { λ r. ⌜ OfForms orOf a b r ⌝ }
+    ensures { λ r. ⌜ OrClause a b r ⌝ }
 {
     let either = xor(a, b);
     let both = and(a, b);
@@ -68,7 +64,7 @@ pub fn or(a: [u64; 64], b: [u64; 64]) -> [u64; 64]
 
 // Which constant the row's form is, if any: true has the empty term alone, and false has none.
 pub fn which_constant(row: [u64; 64]) -> Truth
-    ensures { λ r. ⌜ OfForm whichConstant row r ⌝ }
+    ensures { λ r. ⌜ WhichConstantClause row r ⌝ }
 {
     let other = next_term(&row, 1, 4096);
     if other < 4096 {
@@ -83,7 +79,7 @@ pub fn which_constant(row: [u64; 64]) -> Truth
 
 // Whether the row is one of a form over m parameters: it has no term from 2^m on.
 pub fn fits(row: [u64; 64], m: usize) -> bool
-    ensures { λ r. ⌜ r ≡ fitsOf m row ⌝ }
+    ensures { λ r. ⌜ FitsClause row m r ⌝ }
 {
     if m >= 12 {
         return true;
@@ -93,7 +89,7 @@ pub fn fits(row: [u64; 64], m: usize) -> bool
 
 // The parameters that the row's form names: bit j is set where a term has parameter j.
 pub fn names(row: [u64; 64]) -> usize
-    ensures { λ r. ⌜ OfForm (λ m f. ofBits 12 (namesOf m f)) row r ⌝ }
+    ensures { λ r. ⌜ NamesClause row r ⌝ }
 {
     let mut named: usize = 0;
     let mut k = next_term(&row, 0, 4096);

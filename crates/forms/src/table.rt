@@ -6,12 +6,12 @@ use crate::scan::lone;
 use crate::scan::next_term;
 ghost use mathlib.Core.Path.{_≡_};
 ghost use Prim.Native.Nat.{_+_, _^_, _≤_, _<_};
-ghost use Rattle.ground.specs.Bits.{bit};
-ghost use Rattle.forms.specs.Form.{Form, truth, value as valueOf};
+ghost use Rattle.forms.specs.Form.{Form, truth};
 ghost use Rattle.forms.specs.Words.{most, pack};
 ghost use Rattle.forms.specs.Area.{rowAt};
-ghost use Rattle.forms.specs.Rows.{OfForm, WithRows};
+ghost use Rattle.forms.specs.Rows.{WithRows};
 ghost use Rattle.forms.specs.Steps.{PassedWord, Passed, Mixed, PutTerms, RowOf, TableOf, TablesOf};
+ghost use Rattle.forms.specs.Clauses.{PutInClause, ValueClause};
 
 // The bits of a word whose number lacks parameter p.
 const MASKS: [u64; 6] = [
@@ -148,7 +148,7 @@ fn put_by_values(row: [u64; 64], area: &[u64], base: usize, count: usize) -> [u6
 
 // The row's form with the count rows of the area from base on put in for its parameters, and false for the others.
 pub fn put_in(row: [u64; 64], area: &[u64], base: usize, count: usize) -> [u64; 64]
-    ensures { λ r. ⌜ WithRows row (now (area .entry)) base count r ⌝ }
+    ensures { λ r. ⌜ PutInClause row (now (area .entry)) base count r ⌝ }
 {
     // A constant stays, and a parameter is the row put in for it, negated or not: most calls need no truth values.
     if next_term(&row, 1, 4096) == 4096 {
@@ -165,7 +165,7 @@ pub fn put_in(row: [u64; 64], area: &[u64], base: usize, count: usize) -> [u64; 
 
 // The value of the row's form where parameter j is true exactly if bit j of the setting is set.
 pub fn value(row: [u64; 64], setting: usize) -> bool
-    ensures { λ r. ⌜ OfForm (λ m f. valueOf m f (bit setting)) row r ⌝ }
+    ensures { λ r. ⌜ ValueClause row setting r ⌝ }
 {
     let k = setting % 4096;
     let t = truth_of(row);

@@ -1,3 +1,4 @@
 pub mod Fold
 pub mod Bits
 pub mod Bytes
+pub mod Clauses

@@ -1,18 +1,16 @@
 // Bytes of a slice, zero past its end: one by one, as numbers with the lowest byte first, and zeros behind a prefix.
-ghost use mathlib.Core.Path.{_≡_};
-ghost use lib.ListN.{getD};
-ghost use Rattle.ground.specs.Bytes.{little, zerosFrom};
+ghost use Rattle.ground.specs.Clauses.{ByteClause, TwoClause, FourClause, ZerosFromClause};
 
 // The byte at `at`.
 pub fn byte(bytes: &[u8], at: usize) -> u8
-    ensures { λ r. ⌜ r ≡ getD (now (bytes .entry)) at 0 ⌝ }
+    ensures { λ r. ⌜ ByteClause (now (bytes .entry)) at r ⌝ }
 {
     if at < bytes.len() { bytes[at] } else { 0 }
 }
 
 // The number of the two bytes from `at` on.
 pub fn two(bytes: &[u8], at: usize) -> u32
-    ensures { λ r. ⌜ r ≡ little (now (bytes .entry)) at 2 ⌝ }
+    ensures { λ r. ⌜ TwoClause (now (bytes .entry)) at r ⌝ }
 {
     if bytes.len() <= at {
         return 0;
@@ -24,7 +22,7 @@ pub fn two(bytes: &[u8], at: usize) -> u32
 
 // The number of the four bytes from `at` on.
 pub fn four(bytes: &[u8], at: usize) -> u32
-    ensures { λ r. ⌜ r ≡ little (now (bytes .entry)) at 4 ⌝ }
+    ensures { λ r. ⌜ FourClause (now (bytes .entry)) at r ⌝ }
 {
     if bytes.len() <= at {
         return 0;
@@ -36,7 +34,7 @@ pub fn four(bytes: &[u8], at: usize) -> u32
 
 // Whether every byte from `from` on is zero.
 pub fn zeros_from(bytes: &[u8], from: usize) -> bool
-    ensures { λ r. ⌜ r ≡ zerosFrom (now (bytes .entry)) from ⌝ }
+    ensures { λ r. ⌜ ZerosFromClause (now (bytes .entry)) from r ⌝ }
 {
     if bytes.len() <= from {
         return true;

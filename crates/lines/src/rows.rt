@@ -9,7 +9,8 @@ ghost use Prim.Native.Nat.{_<_};
 ghost use Rattle.ground.specs.Bits.{bitAt};
 ghost use Rattle.lines.specs.Lines.{putText};
 ghost use Rattle.lines.specs.Rows.{termText, noneText, rowBits, rowText, restOfLine, pastLine, remainderLine};
-ghost use Rattle.lines.specs.Rows.{rowsOf, rowOf, rowLine};
+ghost use Rattle.lines.specs.Rows.{rowsOf, rowOf};
+ghost use Rattle.lines.specs.Clauses.{RowLineClause};
 
 // Bits of a row.
 const ROW_BITS: usize = 4096;
@@ -116,7 +117,7 @@ fn put_line(out: &mut [u8], rows: usize, area: &[u64], j: usize) -> usize
 
 // Line j of a state's rows: its past rows, then the remainder, then none.
 pub fn row_line(watcher: Watcher, area: &[u64], j: usize, out: &mut [u8]) -> usize
-    ensures { λ r. ⌜ (r, now (out .exit)) ≡ rowLine watcher (now (area .entry)) j (now (out .entry)) ⌝ }
+    ensures { λ r. ⌜ RowLineClause watcher (now (area .entry)) j (now (out .entry)) (r, now (out .exit)) ⌝ }
 {
     put_line(out, rows_of(watcher), area, j)
 }

@@ -8,8 +8,7 @@ use watcher::state::Watcher;
 ghost use mathlib.Core.Path.{_≡_};
 ghost use mathlib.Core.Bool.{not};
 ghost use Rattle.watcher.specs.State.{isRefused};
-ghost use Rattle.lines.specs.Lines.{startLine, feedLine, closeLine};
-ghost use Rattle.lines.specs.Listing.{lineBytes};
+ghost use Rattle.lines.specs.Clauses.{LineBytesClause, StartLineClause, FeedLineClause, CloseLineClause};
 
 // Bytes that no line has more of.
 pub const LINE_BYTES: usize = 32;
@@ -29,7 +28,7 @@ pub struct Turn {
 
 // The constant above is the bound that the definitions name.
 pub fn line_bytes() -> usize
-    ensures { λ r. ⌜ r ≡ lineBytes ⌝ }
+    ensures { λ r. ⌜ LineBytesClause r ⌝ }
 {
     LINE_BYTES
 }
@@ -46,8 +45,8 @@ fn is_fine(found: Found) -> bool
 
 // Start a watcher; the line is its refusal, if there is one.
 pub fn start_line(rule: &[u8], signals: &[u8], area: &mut [u64], out: &mut [u8]) -> Opened
-    ensures { λ r. ⌜ (r, now (area .exit), now (out .exit))
-        ≡ startLine (now (rule .entry)) (now (signals .entry)) (now (area .entry)) (now (out .entry)) ⌝ }
+    ensures { λ r. ⌜ StartLineClause (now (rule .entry)) (now (signals .entry)) (now (area .entry)) (now (out .entry))
+        (r, now (area .exit), now (out .exit)) ⌝ }
 {
     let started = Watcher::start(rule, signals, area);
     let found = started.found;
@@ -62,8 +61,8 @@ pub fn start_line(rule: &[u8], signals: &[u8], area: &mut [u64], out: &mut [u8])
 
 // Feed a piece of the log; the line is its time and word, or its refusal.
 pub fn feed_line(watcher: Watcher, piece: &[u8], area: &mut [u64], out: &mut [u8]) -> Turn
-    ensures { λ r. ⌜ (r, now (area .exit), now (out .exit))
-        ≡ feedLine watcher (now (piece .entry)) (now (area .entry)) (now (out .entry)) ⌝ }
+    ensures { λ r. ⌜ FeedLineClause watcher (now (piece .entry)) (now (area .entry)) (now (out .entry))
+        (r, now (area .exit), now (out .exit)) ⌝ }
 {
     let fed = watcher.feed(piece, area);
     let answer = fed.answer;
@@ -74,8 +73,8 @@ pub fn feed_line(watcher: Watcher, piece: &[u8], area: &mut [u64], out: &mut [u8
 
 // Close the log; the line is its verdict, or the refusal.
 pub fn close_line(watcher: Watcher, area: &mut [u64], out: &mut [u8]) -> Turn
-    ensures { λ r. ⌜ (r, now (area .exit), now (out .exit))
-        ≡ closeLine watcher (now (area .entry)) (now (out .entry)) ⌝ }
+    ensures { λ r. ⌜ CloseLineClause watcher (now (area .entry)) (now (out .entry))
+        (r, now (area .exit), now (out .exit)) ⌝ }
 {
     let ended = watcher.close(area);
     let answer = ended.answer;

@@ -1,33 +1,30 @@
--- Each clause of an export is an equation, outcome ≡ definition, and leaves room for one outcome only.
+-- The clause of each export, `specs/Clauses.antt`, leaves room for one outcome only.
 -- Assumes nothing.
 use mathlib.Core.Path.{_≡_}
 use mathlib.Core.List.{List}
 use Prim.Native.Nat.{ℕ}
 use Rattle.ground.proofs.OnlyOne.{only-one}
-use Rattle.port.specs.Exports.{startBytes, refusalBytes, feedBytes, closeBytes, horizonBytes}
-use Rattle.port.specs.Whole.{runOf}
+use Rattle.port.specs.Clauses.{StartClause, WouldRefuseClause, FeedClause, CloseClause, HorizonClause, RunClause}
 
--- the code, the whole state and the whole work area afterwards
-pub only-start : (rule signals bytes ws : List ℕ) (o o′ : ℕ × List ℕ × List ℕ) → o ≡ startBytes rule signals bytes ws
-    → o′ ≡ startBytes rule signals bytes ws → o ≡ o′
-only-start rule signals bytes ws = only-one (startBytes rule signals bytes ws)
+pub only-start : (rule signals bytes ws : List ℕ) (o o′ : ℕ × List ℕ × List ℕ) → StartClause rule signals bytes ws o
+    → StartClause rule signals bytes ws o′ → o ≡ o′
+only-start rule signals bytes ws = only-one _
 
-pub only-would-refuse : (bytes piece ws : List ℕ) (n n′ : ℕ) → n ≡ refusalBytes bytes piece ws
-    → n′ ≡ refusalBytes bytes piece ws → n ≡ n′
-only-would-refuse bytes piece ws = only-one (refusalBytes bytes piece ws)
+pub only-would-refuse : (bytes piece ws : List ℕ) (o o′ : ℕ) → WouldRefuseClause bytes piece ws o
+    → WouldRefuseClause bytes piece ws o′ → o ≡ o′
+only-would-refuse bytes piece ws = only-one _
 
-pub only-feed : (bytes piece ws : List ℕ) (o o′ : ℕ × List ℕ × List ℕ) → o ≡ feedBytes bytes piece ws
-    → o′ ≡ feedBytes bytes piece ws → o ≡ o′
-only-feed bytes piece ws = only-one (feedBytes bytes piece ws)
+pub only-feed : (bytes piece ws : List ℕ) (o o′ : ℕ × List ℕ × List ℕ) → FeedClause bytes piece ws o
+    → FeedClause bytes piece ws o′ → o ≡ o′
+only-feed bytes piece ws = only-one _
 
-pub only-close : (bytes ws : List ℕ) (o o′ : ℕ × List ℕ × List ℕ) → o ≡ closeBytes bytes ws → o′ ≡ closeBytes bytes ws
+pub only-close : (bytes ws : List ℕ) (o o′ : ℕ × List ℕ × List ℕ) → CloseClause bytes ws o → CloseClause bytes ws o′
     → o ≡ o′
-only-close bytes ws = only-one (closeBytes bytes ws)
+only-close bytes ws = only-one _
 
-pub only-horizon : (bytes : List ℕ) (n n′ : ℕ) → n ≡ horizonBytes bytes → n′ ≡ horizonBytes bytes → n ≡ n′
-only-horizon bytes = only-one (horizonBytes bytes)
+pub only-horizon : (bytes : List ℕ) (o o′ : ℕ) → HorizonClause bytes o → HorizonClause bytes o′ → o ≡ o′
+only-horizon bytes = only-one _
 
--- the code of closing, the whole work area and all codes afterwards
 pub only-run : (rule signals log ws codes : List ℕ) (o o′ : ℕ × List ℕ × List ℕ)
-    → o ≡ runOf rule signals log ws codes → o′ ≡ runOf rule signals log ws codes → o ≡ o′
-only-run rule signals log ws codes = only-one (runOf rule signals log ws codes)
+    → RunClause rule signals log ws codes o → RunClause rule signals log ws codes o′ → o ≡ o′
+only-run rule signals log ws codes = only-one _

@@ -3,3 +3,4 @@ pub mod Layout
 pub mod Steps
 pub mod Exports
 pub mod Whole
+pub mod Clauses

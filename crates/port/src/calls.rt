@@ -12,8 +12,7 @@ use crate::layout::write_state;
 use watcher::state::Answer;
 use watcher::state::End;
 use watcher::state::Watcher;
-ghost use mathlib.Core.Path.{_≡_};
-ghost use Rattle.port.specs.Exports.{startBytes, refusalBytes, feedBytes, closeBytes, horizonBytes};
+ghost use Rattle.port.specs.Clauses.{StartClause, WouldRefuseClause, FeedClause, CloseClause, HorizonClause};
 
 // Start a watcher.
 #[no_mangle]
@@ -23,8 +22,8 @@ pub extern "C" fn hunchcold_start(
     bytes: &mut [u8],
     area: &mut [u64],
 ) -> u8
-    ensures { λ r. ⌜ (r, now (bytes .exit), now (area .exit)) ≡ startBytes (now (rule .entry)) (now (signals .entry))
-        (now (bytes .entry)) (now (area .entry)) ⌝ }
+    ensures { λ r. ⌜ StartClause (now (rule .entry)) (now (signals .entry)) (now (bytes .entry)) (now (area .entry))
+        (r, now (bytes .exit), now (area .exit)) ⌝ }
 {
     if bytes.len() != STATE_BYTES {
         return STATE_LENGTH;
@@ -39,7 +38,7 @@ pub extern "C" fn hunchcold_start(
 // Would this record be refused, and by which number.
 #[no_mangle]
 pub extern "C" fn hunchcold_would_refuse(bytes: &[u8], piece: &[u8], area: &[u64]) -> u8
-    ensures { λ r. ⌜ r ≡ refusalBytes (now (bytes .entry)) (now (piece .entry)) (now (area .entry)) ⌝ }
+    ensures { λ r. ⌜ WouldRefuseClause (now (bytes .entry)) (now (piece .entry)) (now (area .entry)) r ⌝ }
 {
     if bytes.len() != STATE_BYTES {
         return STATE_LENGTH;
@@ -51,8 +50,8 @@ pub extern "C" fn hunchcold_would_refuse(bytes: &[u8], piece: &[u8], area: &[u64
 // Feed one record.
 #[no_mangle]
 pub extern "C" fn hunchcold_feed(bytes: &mut [u8], piece: &[u8], area: &mut [u64]) -> u8
-    ensures { λ r. ⌜ (r, now (bytes .exit), now (area .exit)) ≡ feedBytes (now (bytes .entry)) (now (piece .entry))
-        (now (area .entry)) ⌝ }
+    ensures { λ r. ⌜ FeedClause (now (bytes .entry)) (now (piece .entry)) (now (area .entry))
+        (r, now (bytes .exit), now (area .exit)) ⌝ }
 {
     if bytes.len() != STATE_BYTES {
         return STATE_LENGTH;
@@ -74,7 +73,7 @@ pub extern "C" fn hunchcold_feed(bytes: &mut [u8], piece: &[u8], area: &mut [u64
 // Close the log.
 #[no_mangle]
 pub extern "C" fn hunchcold_close(bytes: &mut [u8], area: &mut [u64]) -> u8
-    ensures { λ r. ⌜ (r, now (bytes .exit), now (area .exit)) ≡ closeBytes (now (bytes .entry)) (now (area .entry)) ⌝ }
+    ensures { λ r. ⌜ CloseClause (now (bytes .entry)) (now (area .entry)) (r, now (bytes .exit), now (area .exit)) ⌝ }
 {
     if bytes.len() != STATE_BYTES {
         return STATE_LENGTH;
@@ -95,7 +94,7 @@ pub extern "C" fn hunchcold_close(bytes: &mut [u8], area: &mut [u64]) -> u8
 // How long the rule can stay open, in minutes.
 #[no_mangle]
 pub extern "C" fn hunchcold_horizon(bytes: &[u8]) -> u64
-    ensures { λ r. ⌜ r ≡ horizonBytes (now (bytes .entry)) ⌝ }
+    ensures { λ r. ⌜ HorizonClause (now (bytes .entry)) r ⌝ }
 {
     if bytes.len() != STATE_BYTES {
         return FOREVER;

@@ -1,65 +1,56 @@
--- Each clause of a public function leaves room for one outcome only.
+-- The clause of each public function, `specs/Clauses.antt`, leaves room for one outcome only.
 -- Assumes nothing.
 use mathlib.Core.Path.{_≡_}
 use mathlib.Core.Bool.{Bool}
-use mathlib.Core.List.{List, []}
+use mathlib.Core.List.{List}
 use Prim.Native.Nat.{ℕ}
-use Rattle.ground.specs.Bits.{bit}
 use Rattle.ground.proofs.OnlyOne.{only-one}
-use Rattle.meaning.specs.Rule.{count, parameters}
-use Rattle.meaning.specs.Words.{start, valueIfLast}
 use Rattle.rewriting.specs.declared.step.Record.{Record}
 use Rattle.rewriting.specs.declared.step.Plan.{Plan}
 use Rattle.rewriting.specs.declared.step.Moment.{Moment}
-use Rattle.rewriting.specs.Decode.{byteOf, nodeIn, ruleIn}
-use Rattle.rewriting.specs.Known.{areaOf}
-use Rattle.rewriting.specs.Plans.{ruleFor, readIn, leftWith, fedWith, closedWith}
-use Rattle.rewriting.specs.Steps.{recordIn}
-use Rattle.rewriting.specs.Walks.{tableWith}
+use Rattle.rewriting.specs.Clauses.{ByteOfClause, CountAtClause, ParametersInClause, RecordAtClause}
+use Rattle.rewriting.specs.Clauses.{SignalClause, FormsOfClause, FirstClause, FeedClause}
+use Rattle.rewriting.specs.Clauses.{ValueIfLastClause, CloseClause, BeginClause}
 
 -- what is read of a rule list
 module _ (list : List ℕ) (k : ℕ) where
-  pub only-byte : (i r r′ : ℕ) → r ≡ byteOf list k i → r′ ≡ byteOf list k i → r ≡ r′
-  only-byte i = only-one (byteOf list k i)
+  pub only-byte-of : (i o o′ : ℕ) → ByteOfClause list k i o → ByteOfClause list k i o′ → o ≡ o′
+  only-byte-of i = only-one _
 
-  pub only-count : (r r′ : ℕ) → r ≡ count (nodeIn list k) → r′ ≡ count (nodeIn list k) → r ≡ r′
-  only-count = only-one (count (nodeIn list k))
+  pub only-count-at : (o o′ : ℕ) → CountAtClause list k o → CountAtClause list k o′ → o ≡ o′
+  only-count-at o o′ a b = only-one _ o o′ (a .0) (b .0)
 
-  pub only-parameters : (r r′ : ℕ) → r ≡ parameters (ruleIn list k) → r′ ≡ parameters (ruleIn list k) → r ≡ r′
-  only-parameters = only-one (parameters (ruleIn list k))
+  pub only-parameters-in : (o o′ : ℕ) → ParametersInClause list k o → ParametersInClause list k o′ → o ≡ o′
+  only-parameters-in = only-one _
 
-  pub only-record : (r r′ : Record) → r ≡ recordIn list k → r′ ≡ recordIn list k → r ≡ r′
-  only-record = only-one (recordIn list k)
+  pub only-record-at : (o o′ : Record) → RecordAtClause list k o → RecordAtClause list k o′ → o ≡ o′
+  only-record-at = only-one _
 
 -- whether a signal holds
-pub only-signal : (signals s : ℕ) (r r′ : Bool) → r ≡ bit signals s → r′ ≡ bit signals s → r ≡ r′
-only-signal signals s = only-one (bit signals s)
+pub only-signal : (signals s : ℕ) (o o′ : Bool) → SignalClause signals s o → SignalClause signals s o′ → o ≡ o′
+only-signal signals s = only-one _
 
 -- the table, and the whole area
-pub only-table : (list : List ℕ) (records m : ℕ) (ws r r′ : List ℕ) → r ≡ tableWith list records m ws
-    → r′ ≡ tableWith list records m ws → r ≡ r′
-only-table list records m ws = only-one (tableWith list records m ws)
+pub only-forms-of : (list : List ℕ) (records m : ℕ) (table o o′ : List ℕ) → FormsOfClause list records m table o
+    → FormsOfClause list records m table o′ → o ≡ o′
+only-forms-of list records m table = only-one _
 
-module _ (list : List ℕ) (plan : Plan) (ws : List ℕ) where
-  pub only-left : (new : Moment) (r r′ : List ℕ) → r ≡ leftWith list plan new ws → r′ ≡ leftWith list plan new ws
-      → r ≡ r′
-  only-left new = only-one (leftWith list plan new ws)
+module _ (list : List ℕ) (plan : Plan) (forms ws : List ℕ) where
+  pub only-first : (new : Moment) (o o′ : List ℕ) → FirstClause list plan new forms ws o
+      → FirstClause list plan new forms ws o′ → o ≡ o′
+  only-first new = only-one _
 
-  pub only-fed : (last new : Moment) (r r′ : List ℕ) → r ≡ fedWith list plan last new ws
-      → r′ ≡ fedWith list plan last new ws → r ≡ r′
-  only-fed last new = only-one (fedWith list plan last new ws)
+  pub only-feed : (last new : Moment) (o o′ : List ℕ) → FeedClause list plan last new forms ws o
+      → FeedClause list plan last new forms ws o′ → o ≡ o′
+  only-feed last new = only-one _
 
-  pub only-value : (last : Moment) (r r′ : Bool)
-      → r ≡ valueIfLast (plan .m) (ruleFor list plan) (readIn plan ws last)
-      → r′ ≡ valueIfLast (plan .m) (ruleFor list plan) (readIn plan ws last) → r ≡ r′
-  only-value last = only-one (valueIfLast (plan .m) (ruleFor list plan) (readIn plan ws last))
+  pub only-value-if-last : (last : Moment) (o o′ : Bool) → ValueIfLastClause list plan last forms ws o
+      → ValueIfLastClause list plan last forms ws o′ → o ≡ o′
+  only-value-if-last last = only-one _
 
-  pub only-closed : (last : Moment) (r r′ : Bool × List ℕ)
-      → r ≡ closedWith plan (ruleFor list plan) (readIn plan ws last)
-      → r′ ≡ closedWith plan (ruleFor list plan) (readIn plan ws last) → r ≡ r′
-  only-closed last = only-one (closedWith plan (ruleFor list plan) (readIn plan ws last))
+  pub only-close : (last : Moment) (o o′ : Bool × List ℕ) → CloseClause list plan last forms ws o
+      → CloseClause list plan last forms ws o′ → o ≡ o′
+  only-close last = only-one _
 
-  pub only-begun : (r r′ : List ℕ)
-      → r ≡ areaOf (plan .places) (plan .m) [] (start (plan .m) (ruleFor list plan))
-      → r′ ≡ areaOf (plan .places) (plan .m) [] (start (plan .m) (ruleFor list plan)) → r ≡ r′
-  only-begun = only-one (areaOf (plan .places) (plan .m) [] (start (plan .m) (ruleFor list plan)))
+  pub only-begin : (o o′ : List ℕ) → BeginClause list plan forms ws o → BeginClause list plan forms ws o′ → o ≡ o′
+  only-begin = only-one _

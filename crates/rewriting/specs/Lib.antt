@@ -4,3 +4,4 @@ pub mod Plans
 pub mod Steps
 pub mod Walks
 pub mod Endings
+pub mod Clauses

@@ -15,16 +15,15 @@ use forms::rows::constant;
 use forms::table::value;
 ghost use mathlib.Core.Path.{_≡_};
 ghost use mathlib.Core.Bool.{_&&_, _||_};
-ghost use mathlib.Core.List.{[]};
 ghost use Prim.Native.Nat.{ℕ, _+_, _≤_, _<_};
 ghost use lib.Dec.{eqb};
 ghost use lib.ListN.{length};
 ghost use Rattle.ground.specs.Bits.{bit};
-ghost use Rattle.meaning.specs.Words.{start, valueIfLast};
-ghost use Rattle.rewriting.specs.Known.{wordsFor, areaOf};
-ghost use Rattle.rewriting.specs.Plans.{ruleFor, readIn, Sound, HoldsForms, Ready, closedWith};
+ghost use Rattle.rewriting.specs.Known.{wordsFor};
+ghost use Rattle.rewriting.specs.Plans.{Sound, HoldsForms, Ready};
 ghost use Rattle.rewriting.specs.Steps.{Fair};
 ghost use Rattle.rewriting.specs.Endings.{Settled, lastRows, OfEnd, OfEnds};
+ghost use Rattle.rewriting.specs.Clauses.{ValueIfLastClause, CloseClause, BeginClause};
 
 // The value of a record's shift at the end, from a setting that has those of the records before.
 fn end_value(step: Step, forms: &[u64], k: usize, area: &[u64], setting: usize) -> bool
@@ -97,8 +96,7 @@ fn last_setting(list: &[u8], plan: Plan, last: Moment, forms: &[u64], area: &[u6
 // The value were this the last record.
 pub fn value_if_last(list: &[u8], plan: Plan, last: Moment, forms: &[u64], area: &[u64]) -> bool
     requires { ⌜ Ready (now list) plan (now forms) (now area) ⌝ }
-    ensures { λ r. ⌜ r ≡ valueIfLast (plan .m) (ruleFor (now (list .entry)) plan)
-        (readIn plan (now (area .entry)) last) ⌝ }
+    ensures { λ r. ⌜ ValueIfLastClause (now (list .entry)) plan last (now (forms .entry)) (now (area .entry)) r ⌝ }
 {
     let setting = last_setting(list, plan, last, forms, area);
     value(load(area, plan.places), setting)
@@ -107,8 +105,8 @@ pub fn value_if_last(list: &[u8], plan: Plan, last: Moment, forms: &[u64], area:
 // Closing: the past rows stay, and the remainder is the constant.
 pub fn close(list: &[u8], plan: Plan, last: Moment, forms: &[u64], area: &mut [u64]) -> bool
     requires { ⌜ Ready (now list) plan (now forms) (now area) ⌝ }
-    ensures { λ r. ⌜ (r, now (area .exit)) ≡ closedWith plan (ruleFor (now (list .entry)) plan)
-        (readIn plan (now (area .entry)) last) ⌝ }
+    ensures { λ r. ⌜ CloseClause (now (list .entry)) plan last (now (forms .entry)) (now (area .entry))
+        (r, now (area .exit)) ⌝ }
 {
     let scratch = plan.places + 1;
     let b = value_if_last(list, plan, last, forms, area);
@@ -121,8 +119,8 @@ pub fn close(list: &[u8], plan: Plan, last: Moment, forms: &[u64], area: &mut [u
 pub fn begin(list: &[u8], plan: Plan, forms: &[u64], area: &mut [u64])
     requires { ⌜ Sound (now list) plan × HoldsForms (now list) plan (now forms)
         × (length (now area) ≡ wordsFor (plan .places)) ⌝ }
-    ensures { λ _. ⌜ now (area .exit) ≡ areaOf (plan .places) (plan .m) []
-        (start (plan .m) (ruleFor (now (list .entry)) plan)) ⌝ }
+    ensures { λ _. ⌜ BeginClause (now (list .entry)) plan (now (forms .entry)) (now (area .entry))
+        (now (area .exit)) ⌝ }
 {
     clear(area, 0, plan.places);
     store(

@@ -6,10 +6,10 @@ use forms::rows::parameter;
 use forms::table::put_in;
 ghost use mathlib.Core.Path.{_≡_};
 ghost use Prim.Native.Nat.{_+_, _≤_};
-ghost use Rattle.ground.specs.Bits.{bit};
 ghost use Rattle.forms.specs.Words.{pack};
 ghost use Rattle.meaning.specs.Rewriting.{parameterTo};
 ghost use Rattle.rewriting.specs.Steps.{movedOf, Near, OfRow, OfMoved, OnlyRow, OnlyWithRows};
+ghost use Rattle.rewriting.specs.Clauses.{SignalClause};
 
 // Row j of the count rows from base on; false past them.
 pub(crate) fn row_of(area: &[u64], base: usize, count: usize, j: usize) -> [u64; 64]
@@ -82,7 +82,7 @@ pub(crate) fn only_row(test: bool, area: &[u64], count: usize, j: usize) -> [u64
 
 // Whether a signal holds, from the word of all of them.
 pub fn signal(signals: u16, s: u8) -> bool
-    ensures { λ r. ⌜ r ≡ bit signals s ⌝ }
+    ensures { λ r. ⌜ SignalClause signals s r ⌝ }
 {
     if s < 16 {
         (signals >> s) % 2 == 1

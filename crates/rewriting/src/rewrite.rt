@@ -9,13 +9,14 @@ use forms::area::clear;
 use forms::area::load;
 use forms::area::store;
 use forms::table::put_in;
-ghost use mathlib.Core.Path.{_≡_};
-ghost use Rattle.rewriting.specs.Plans.{Ready, leftWith, fedWith};
+ghost use Rattle.rewriting.specs.Plans.{Ready};
+ghost use Rattle.rewriting.specs.Clauses.{FirstClause, FeedClause};
 
 // The first record leaves the remainder, and makes its past rows.
 pub fn first(list: &[u8], plan: Plan, new: Moment, forms: &[u64], area: &mut [u64])
     requires { ⌜ Ready (now list) plan (now forms) (now area) ⌝ }
-    ensures { λ _. ⌜ now (area .exit) ≡ leftWith (now (list .entry)) plan new (now (area .entry)) ⌝ }
+    ensures { λ _. ⌜ FirstClause (now (list .entry)) plan new (now (forms .entry)) (now (area .entry))
+        (now (area .exit)) ⌝ }
 {
     let scratch = plan.places + 1;
     past_all(list, plan, new, Neighbour::None, 0, forms, area);
@@ -25,7 +26,8 @@ pub fn first(list: &[u8], plan: Plan, new: Moment, forms: &[u64], area: &mut [u6
 // A later record puts the derived rows of the one before into the remainder, then makes its past rows.
 pub fn feed(list: &[u8], plan: Plan, last: Moment, new: Moment, forms: &[u64], area: &mut [u64])
     requires { ⌜ Ready (now list) plan (now forms) (now area) ⌝ }
-    ensures { λ _. ⌜ now (area .exit) ≡ fedWith (now (list .entry)) plan last new (now (area .entry)) ⌝ }
+    ensures { λ _. ⌜ FeedClause (now (list .entry)) plan last new (now (forms .entry)) (now (area .entry))
+        (now (area .exit)) ⌝ }
 {
     let derived = plan.places + 1;
     derive_all(list, plan, last, Neighbour::At(new.time), forms, area);

@@ -4,9 +4,8 @@ use ground::bytes::byte;
 ghost use mathlib.Core.Path.{_≡_};
 ghost use Prim.Native.Nat.{_<_, _≤_};
 ghost use Rattle.meaning.specs.Interval.{shifts};
-ghost use Rattle.meaning.specs.Rule.{count, parameters};
-ghost use Rattle.rewriting.specs.Decode.{recordBytes, byteOf, intervalOf, nodeIn, ruleIn};
-ghost use Rattle.rewriting.specs.Steps.{recordIn};
+ghost use Rattle.rewriting.specs.Decode.{recordBytes, intervalOf};
+ghost use Rattle.rewriting.specs.Clauses.{ByteOfClause, CountAtClause, ParametersInClause, RecordAtClause};
 
 // Bytes of a record.
 const RECORD_BYTES: usize = 8;
@@ -14,7 +13,7 @@ const RECORD_BYTES: usize = 8;
 // Byte `i` of record `k`.
 pub fn byte_of(list: &[u8], k: usize, i: usize) -> u8
     requires { ⌜ (k < 64) × (i < recordBytes) ⌝ }
-    ensures { λ r. ⌜ r ≡ byteOf (now (list .entry)) k i ⌝ }
+    ensures { λ r. ⌜ ByteOfClause (now (list .entry)) k i r ⌝ }
 {
     byte(list, RECORD_BYTES * k + i)
 }
@@ -33,7 +32,7 @@ fn shifts_of(low: u8, high: u8) -> usize
 // How many parameters record `k` has.
 pub fn count_at(list: &[u8], k: usize) -> usize
     requires { ⌜ k < 64 ⌝ }
-    ensures { λ r. ⌜ (r ≡ count (nodeIn (now (list .entry)) k)) × (r ≤ 256) ⌝ }
+    ensures { λ r. ⌜ CountAtClause (now (list .entry)) k r ⌝ }
 {
     let kind = byte_of(list, k, 0);
     match kind {
@@ -46,7 +45,7 @@ pub fn count_at(list: &[u8], k: usize) -> usize
 // How many parameters the first `n` records have.
 pub fn parameters_in(list: &[u8], n: usize) -> usize
     requires { ⌜ n ≤ 64 ⌝ }
-    ensures { λ r. ⌜ r ≡ parameters (ruleIn (now (list .entry)) n) ⌝ }
+    ensures { λ r. ⌜ ParametersInClause (now (list .entry)) n r ⌝ }
 {
     let mut sum = 0;
     for k in 0..n {
@@ -58,7 +57,7 @@ pub fn parameters_in(list: &[u8], n: usize) -> usize
 // Record `k` of the list.
 pub fn record_at(list: &[u8], k: usize) -> Record
     requires { ⌜ k < 64 ⌝ }
-    ensures { λ r. ⌜ r ≡ recordIn (now (list .entry)) k ⌝ }
+    ensures { λ r. ⌜ RecordAtClause (now (list .entry)) k r ⌝ }
 {
     Record {
         kind: byte_of(list, k, 0),

@@ -15,12 +15,13 @@ ghost use lib.ListN.{length};
 ghost use Rattle.rewriting.specs.Known.{wordsFor};
 ghost use Rattle.rewriting.specs.Plans.{Sound, HoldsForms, Ready};
 ghost use Rattle.rewriting.specs.Steps.{Fair};
-ghost use Rattle.rewriting.specs.Walks.{tableWith, Begins, PutsDerived, derivedWith, PutsPast, PastWith};
+ghost use Rattle.rewriting.specs.Walks.{Begins, PutsDerived, derivedWith, PutsPast, PastWith};
+ghost use Rattle.rewriting.specs.Clauses.{FormsOfClause};
 
 // The forms of the first `records` records of the rule, in a table.
 pub fn forms_of(list: &[u8], records: usize, m: usize, table: &mut [u64])
     requires { ⌜ (m ≤ 12) × (records ≤ 64) × (64 * records ≤ length (now table)) ⌝ }
-    ensures { λ _. ⌜ now (table .exit) ≡ tableWith (now (list .entry)) records m (now (table .entry)) ⌝ }
+    ensures { λ _. ⌜ FormsOfClause (now (list .entry)) records m (now (table .entry)) (now (table .exit)) ⌝ }
 {
     let mut first = 0;
     for k in 0..records {

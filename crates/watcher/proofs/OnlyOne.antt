@@ -1,6 +1,7 @@
--- Each clause of this crate is an equation, outcome ≡ definition, and leaves room for one outcome only.
+-- The clause of each public function, `specs/Clauses.antt`, leaves room for one outcome only.
 -- Assumes nothing.
 use mathlib.Core.Path.{_≡_, sym, _∙_}
+use mathlib.Core.Bool.{Bool}
 use mathlib.Core.List.{List}
 use Prim.Native.Nat.{ℕ}
 use Rattle.ground.proofs.OnlyOne.{only-one}
@@ -11,30 +12,48 @@ use Rattle.watcher.specs.declared.state.Ended.{Ended}
 use Rattle.watcher.specs.declared.state.Found.{Found}
 use Rattle.watcher.specs.declared.state.Refusal.{Refusal}
 use Rattle.watcher.specs.declared.state.Wait.{Wait}
-use Rattle.watcher.specs.Numbers.{refusalNumber, horizonFor}
-use Rattle.watcher.specs.Calls.{startOf, feedRefusal, feedOf, closeOf, waitOf}
+use Rattle.watcher.specs.declared.state.Limits.{Limits}
+use Rattle.watcher.specs.Clauses.{LimitsClause, CheckListsClause, NumberClause}
+use Rattle.watcher.specs.Clauses.{WrongRecordClause, TimeOfClause, SignalWordClause}
+use Rattle.watcher.specs.Clauses.{StartClause, WouldRefuseClause, FeedClause, CloseClause, HorizonClause}
 use Rattle.watcher.proofs.Numbers.{horizon-one}
 
--- answer, next state and the whole work area afterwards, of start, feed and close
-pub only-start : (rule signals ws : List ℕ) (o o′ : Started × List ℕ) → o ≡ startOf rule signals ws
-    → o′ ≡ startOf rule signals ws → o ≡ o′
-only-start rule signals ws = only-one (startOf rule signals ws)
+pub only-limits : (o o′ : Limits) → LimitsClause o → LimitsClause o′ → o ≡ o′
+only-limits = only-one _
 
-pub only-feed : (w : Watcher) (bytes ws : List ℕ) (o o′ : Fed × List ℕ) → o ≡ feedOf w bytes ws
-    → o′ ≡ feedOf w bytes ws → o ≡ o′
-only-feed w bytes ws = only-one (feedOf w bytes ws)
+pub only-check-lists : (rule signals : List ℕ) (o o′ : Found) → CheckListsClause rule signals o
+    → CheckListsClause rule signals o′ → o ≡ o′
+only-check-lists rule signals = only-one _
 
-pub only-close : (w : Watcher) (ws : List ℕ) (o o′ : Ended × List ℕ) → o ≡ closeOf w ws → o′ ≡ closeOf w ws → o ≡ o′
-only-close w ws = only-one (closeOf w ws)
+pub only-number : (refusal : Refusal) (o o′ : ℕ) → NumberClause refusal o → NumberClause refusal o′ → o ≡ o′
+only-number refusal = only-one _
 
--- would this record be refused, and how long the rule can stay open
-pub only-refusal : (w : Watcher) (bytes ws : List ℕ) (f f′ : Found) → f ≡ feedRefusal w bytes ws
-    → f′ ≡ feedRefusal w bytes ws → f ≡ f′
-only-refusal w bytes ws = only-one (feedRefusal w bytes ws)
+pub only-wrong-record : (bytes : List ℕ) (o o′ : Bool) → WrongRecordClause bytes o → WrongRecordClause bytes o′
+    → o ≡ o′
+only-wrong-record bytes = only-one _
 
-pub only-wait : (w : Watcher) (a b : Wait) → horizonFor a ≡ waitOf w → horizonFor b ≡ waitOf w → a ≡ b
-only-wait w a b p q = horizon-one a b (p ∙ sym q)
+pub only-time-of : (bytes : List ℕ) (o o′ : ℕ) → TimeOfClause bytes o → TimeOfClause bytes o′ → o ≡ o′
+only-time-of bytes = only-one _
 
--- the number of a refusal
-pub only-number : (refusal : Refusal) (n n′ : ℕ) → n ≡ refusalNumber refusal → n′ ≡ refusalNumber refusal → n ≡ n′
-only-number refusal = only-one (refusalNumber refusal)
+pub only-signal-word : (list : List ℕ) (signals : ℕ) (bytes : List ℕ) (o o′ : ℕ)
+    → SignalWordClause list signals bytes o → SignalWordClause list signals bytes o′ → o ≡ o′
+only-signal-word list signals bytes = only-one _
+
+pub only-start : (rule signals ws : List ℕ) (o o′ : Started × List ℕ) → StartClause rule signals ws o
+    → StartClause rule signals ws o′ → o ≡ o′
+only-start rule signals ws = only-one _
+
+pub only-would-refuse : (w : Watcher) (bytes ws : List ℕ) (o o′ : Found) → WouldRefuseClause w bytes ws o
+    → WouldRefuseClause w bytes ws o′ → o ≡ o′
+only-would-refuse w bytes ws = only-one _
+
+pub only-feed : (w : Watcher) (bytes ws : List ℕ) (o o′ : Fed × List ℕ) → FeedClause w bytes ws o
+    → FeedClause w bytes ws o′ → o ≡ o′
+only-feed w bytes ws = only-one _
+
+pub only-close : (w : Watcher) (ws : List ℕ) (o o′ : Ended × List ℕ) → CloseClause w ws o → CloseClause w ws o′
+    → o ≡ o′
+only-close w ws = only-one _
+
+pub only-horizon : (w : Watcher) (o o′ : Wait) → HorizonClause w o → HorizonClause w o′ → o ≡ o′
+only-horizon w o o′ a b = horizon-one o o′ (a ∙ sym b)

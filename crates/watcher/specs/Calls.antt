@@ -49,9 +49,12 @@ tooEarly (running e) time = ltb time (e .time)
 tooEarly (closed b) time = false
 
 -- start tests 1 to 7 in that order
+abbrev pub startTests : (rule signals ws : List ℕ) → List Test
+startTests rule signals ws =
+    listTests rule signals ++ (record { holds = wrongArea ws; gives = refusal.AreaLength } ∷ [])
+
 unfoldable pub startRefusal : (rule signals ws : List ℕ) → Found
-startRefusal rule signals ws =
-    firstRefusal (listTests rule signals ++ (record { holds = wrongArea ws; gives = refusal.AreaLength } ∷ []))
+startRefusal rule signals ws = firstRefusal (startTests rule signals ws)
 
 -- what feed and close test first: 7, 12, 10
 unfoldable pub stateTests : Watcher → List ℕ → List Test
@@ -61,20 +64,24 @@ stateTests w ws =
     ∷ record { holds = isClosed (stageOf (w .phase)); gives = refusal.AlreadyClosed }
     ∷ []
 
--- would this record be refused: 7, 12, 10, 8, 9
-unfoldable pub feedRefusal : Watcher → (bytes ws : List ℕ) → Found
-feedRefusal w bytes ws =
-    firstRefusal
-    (stateTests w ws
+-- feed tests 7, 12, 10, 8, 9: would this record be refused
+abbrev pub feedTests : Watcher → (bytes ws : List ℕ) → List Test
+feedTests w bytes ws =
+    stateTests w ws
     ++ (record { holds = wrongRecord bytes; gives = refusal.LogRecord }
     ∷ record { holds = tooEarly (stageOf (w .phase)) (timeOf bytes); gives = refusal.LogTime }
-    ∷ []))
+    ∷ [])
 
--- 7, 12, 10, 11
+unfoldable pub feedRefusal : Watcher → (bytes ws : List ℕ) → Found
+feedRefusal w bytes ws = firstRefusal (feedTests w bytes ws)
+
+-- close tests 7, 12, 10, 11
+abbrev pub closeTests : Watcher → List ℕ → List Test
+closeTests w ws =
+    stateTests w ws ++ (record { holds = isFresh (stageOf (w .phase)); gives = refusal.NothingFed } ∷ [])
+
 unfoldable pub closeRefusal : Watcher → List ℕ → Found
-closeRefusal w ws =
-    firstRefusal
-    (stateTests w ws ++ (record { holds = isFresh (stageOf (w .phase)); gives = refusal.NothingFed } ∷ []))
+closeRefusal w ws = firstRefusal (closeTests w ws)
 
 -- a list with zeros behind it
 unfoldable pub padded : List ℕ → List ℕ

@@ -12,3 +12,4 @@ pub mod Machine
 pub mod Shapes
 pub mod Turns
 pub mod Horizons
+pub mod Clauses

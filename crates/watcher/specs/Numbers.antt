@@ -1,6 +1,7 @@
 -- Document 01's number or value for each case of an answer.
 use Prim.Native.Nat.{ℕ}
-use mathlib.Core.Bool.{Bool, true, false}
+use mathlib.Core.Bool.{Bool, true, false, cond}
+use mathlib.Core.List.{List, [], _∷_, map}
 use Rattle.meaning.specs.Rule.{Entry}
 use Rattle.meaning.specs.Horizon.{Horizon, within, never}
 use Rattle.meaning.specs.Words as words
@@ -17,6 +18,7 @@ use Rattle.watcher.specs.declared.state.Refusal.the-variants.{RuleLength
 use Rattle.watcher.specs.declared.state.Refusal.the-variants.{SignalList, SignalMissing}
 use Rattle.watcher.specs.declared.state.Refusal.the-variants.{AreaLength, LogRecord, LogTime}
 use Rattle.watcher.specs.declared.state.Refusal.the-variants.{AlreadyClosed, NothingFed, BrokenState}
+use Rattle.watcher.specs.Lists.{Test}
 
 -- the word of the meaning
 unfoldable pub wordOf : Word → words.Word
@@ -70,3 +72,16 @@ refusalNumber LogTime = 9
 refusalNumber AlreadyClosed = 10
 refusalNumber NothingFed = 11
 refusalNumber BrokenState = 12
+
+-- of a list of tests, which hold and what their numbers are, in its order
+abbrev pub heldOf : List Test → List Bool
+heldOf tests = map (λ t. t .holds) tests
+
+abbrev pub numbersOf : List Test → List ℕ
+numbersOf tests = map (λ t. refusalNumber (t .gives)) tests
+
+-- the number that stands where the first test holds
+abbrev pub firstNumber : List Bool → List ℕ → ℕ
+firstNumber [] numbers = 0
+firstNumber (held ∷ more) [] = 0
+firstNumber (held ∷ more) (n ∷ numbers) = cond held n (firstNumber more numbers)

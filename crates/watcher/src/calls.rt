@@ -33,10 +33,10 @@ ghost use Rattle.watcher.specs.declared.state.Found.the-variants.{Fine};
 ghost use Rattle.watcher.specs.Limits.{areaWords};
 ghost use Rattle.watcher.specs.Lists.{listsRefusal};
 ghost use Rattle.watcher.specs.Calls.{zeroState, freshState, runningState};
-ghost use Rattle.watcher.specs.Calls.{startWith, startOf, feedRefusal, feedWith, feedOf};
-ghost use Rattle.watcher.specs.Calls.{closeWith, closeOf, waitOf};
+ghost use Rattle.watcher.specs.Calls.{startWith, feedWith, closeWith};
 ghost use Rattle.watcher.specs.Turns.{Passed, endedState};
-ghost use Rattle.watcher.specs.Numbers.{verdictFor, horizonFor};
+ghost use Rattle.watcher.specs.Numbers.{verdictFor};
+ghost use Rattle.watcher.specs.Clauses.{StartClause, WouldRefuseClause, FeedClause, CloseClause, HorizonClause};
 
 // A fresh state of zeros.
 fn zero_state() -> Watcher
@@ -156,8 +156,8 @@ fn finish(watcher: Watcher, area: &mut [u64]) -> Ended
 impl Watcher {
     // Start a watcher on a rule, a signal list and a work area.
     pub fn start(rule: &[u8], signals: &[u8], area: &mut [u64]) -> Started
-        ensures { λ r. ⌜ (r, now (area .exit)) ≡ startOf (now (rule .entry)) (now (signals .entry))
-            (now (area .entry)) ⌝ }
+        ensures { λ r. ⌜ StartClause (now (rule .entry)) (now (signals .entry)) (now (area .entry))
+            (r, now (area .exit)) ⌝ }
     {
         let found = start_refusal(rule, signals, area);
         match found {
@@ -171,14 +171,14 @@ impl Watcher {
 
     // Would this record be refused, and by which number.
     pub fn would_refuse(self, bytes: &[u8], area: &[u64]) -> Found
-        ensures { λ r. ⌜ r ≡ feedRefusal self (now (bytes .entry)) (now (area .entry)) ⌝ }
+        ensures { λ r. ⌜ WouldRefuseClause self (now (bytes .entry)) (now (area .entry)) r ⌝ }
     {
         feed_refusal(self, bytes, area)
     }
 
     // Feed one record.
     pub fn feed(self, bytes: &[u8], area: &mut [u64]) -> Fed
-        ensures { λ r. ⌜ (r, now (area .exit)) ≡ feedOf self (now (bytes .entry)) (now (area .entry)) ⌝ }
+        ensures { λ r. ⌜ FeedClause self (now (bytes .entry)) (now (area .entry)) (r, now (area .exit)) ⌝ }
     {
         let found = self.would_refuse(bytes, area);
         match found {
@@ -192,7 +192,7 @@ impl Watcher {
 
     // Close the log.
     pub fn close(self, area: &mut [u64]) -> Ended
-        ensures { λ r. ⌜ (r, now (area .exit)) ≡ closeOf self (now (area .entry)) ⌝ }
+        ensures { λ r. ⌜ CloseClause self (now (area .entry)) (r, now (area .exit)) ⌝ }
     {
         let found = close_refusal(self, area);
         match found {
@@ -206,7 +206,7 @@ impl Watcher {
 
     // How long the rule can stay open, in minutes; where start refuses the rule or the list there is no limit.
     pub fn horizon(self) -> Wait
-        ensures { λ r. ⌜ horizonFor r ≡ waitOf self ⌝ }
+        ensures { λ r. ⌜ HorizonClause self r ⌝ }
     {
         if start_refuses(self) {
             return Wait::Forever;

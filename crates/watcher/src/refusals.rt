@@ -14,14 +14,15 @@ use crate::state::Phase;
 use crate::state::Refusal;
 use crate::state::Watcher;
 ghost use mathlib.Core.Path.{_≡_};
-ghost use Rattle.watcher.specs.Lists.{firstRefusal, listsRefusal};
+ghost use Rattle.watcher.specs.Lists.{firstRefusal};
 ghost use Rattle.watcher.specs.Calls.{isClosed, isFresh, tooEarly};
 ghost use Rattle.watcher.specs.Calls.{startRefusal, stateTests, feedRefusal, closeRefusal};
-ghost use Rattle.watcher.specs.Numbers.{stageOf, refusalNumber};
+ghost use Rattle.watcher.specs.Numbers.{stageOf};
+ghost use Rattle.watcher.specs.Clauses.{CheckListsClause, NumberClause};
 
 // What is refused of the lists that start is given: refusals 1 to 6.
 pub fn check_lists(rule: &[u8], signals: &[u8]) -> Found
-    ensures { λ r. ⌜ r ≡ listsRefusal (now (rule .entry)) (now (signals .entry)) ⌝ }
+    ensures { λ r. ⌜ CheckListsClause (now (rule .entry)) (now (signals .entry)) r ⌝ }
 {
     if wrong_length(rule) {
         return Found::Refused(Refusal::RuleLength);
@@ -164,7 +165,7 @@ pub(crate) fn close_refusal(watcher: Watcher, area: &[u64]) -> Found
 impl Refusal {
     // Document 01's number of a refusal.
     pub fn number(self) -> usize
-        ensures { λ r. ⌜ r ≡ refusalNumber self ⌝ }
+        ensures { λ r. ⌜ NumberClause self r ⌝ }
     {
         match self {
             Refusal::RuleLength => 1,

@@ -1,6 +1,5 @@
 // The watcher's state, its limits, and its answers.
-ghost use mathlib.Core.Path.{_≡_};
-ghost use Rattle.watcher.specs.Limits.{limitsOf};
+ghost use Rattle.watcher.specs.Clauses.{LimitsClause};
 
 // The word after a record.
 pub enum Word {
@@ -124,7 +123,7 @@ impl Watcher {
 
     // The constants above are the limits that the definitions name.
     pub fn limits() -> Limits
-        ensures { λ r. ⌜ r ≡ limitsOf ⌝ }
+        ensures { λ r. ⌜ LimitsClause r ⌝ }
     {
         Limits {
             records: Self::RECORDS,

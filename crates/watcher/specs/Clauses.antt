@@ -1,0 +1,62 @@
+-- The clause of each public function: of what is handed in, and the answer with the whole area at exit.
+use mathlib.Core.Path.{_≡_}
+use mathlib.Core.Bool.{Bool}
+use mathlib.Core.List.{List}
+use Prim.Native.Nat.{ℕ}
+use Rattle.watcher.specs.declared.state.Watcher.{Watcher}
+use Rattle.watcher.specs.declared.state.Started.{Started}
+use Rattle.watcher.specs.declared.state.Fed.{Fed}
+use Rattle.watcher.specs.declared.state.Ended.{Ended}
+use Rattle.watcher.specs.declared.state.Found.{Found}
+use Rattle.watcher.specs.declared.state.Refusal.{Refusal}
+use Rattle.watcher.specs.declared.state.Wait.{Wait}
+use Rattle.watcher.specs.declared.state.Limits.{Limits}
+use Rattle.watcher.specs.Limits.{limitsOf}
+use Rattle.watcher.specs.Lists.{listsRefusal}
+use Rattle.watcher.specs.Records.{wrongRecord, timeOf, signalWord}
+use Rattle.watcher.specs.Numbers.{refusalNumber, horizonFor}
+use Rattle.watcher.specs.Calls.{startOf, feedRefusal, feedOf, closeOf, waitOf}
+
+-- the limits, as numbers
+abbrev pub LimitsClause : Limits → Type 0
+LimitsClause o = o ≡ limitsOf
+
+-- what is refused of the lists that start is given
+abbrev pub CheckListsClause : (rule signals : List ℕ) → Found → Type 0
+CheckListsClause rule signals o = o ≡ listsRefusal rule signals
+
+-- the number of a refusal
+abbrev pub NumberClause : Refusal → ℕ → Type 0
+NumberClause refusal o = o ≡ refusalNumber refusal
+
+-- whether bytes are no log record
+abbrev pub WrongRecordClause : List ℕ → Bool → Type 0
+WrongRecordClause bytes o = o ≡ wrongRecord bytes
+
+-- a log record's time
+abbrev pub TimeOfClause : List ℕ → ℕ → Type 0
+TimeOfClause bytes o = o ≡ timeOf bytes
+
+-- the signals that hold in a log record
+abbrev pub SignalWordClause : (list : List ℕ) (signals : ℕ) (bytes : List ℕ) → ℕ → Type 0
+SignalWordClause list signals bytes o = o ≡ signalWord list signals bytes
+
+-- starting a watcher
+abbrev pub StartClause : (rule signals ws : List ℕ) → Started × List ℕ → Type 0
+StartClause rule signals ws o = o ≡ startOf rule signals ws
+
+-- whether a record would be refused
+abbrev pub WouldRefuseClause : Watcher → (bytes ws : List ℕ) → Found → Type 0
+WouldRefuseClause w bytes ws o = o ≡ feedRefusal w bytes ws
+
+-- feeding a record
+abbrev pub FeedClause : Watcher → (bytes ws : List ℕ) → Fed × List ℕ → Type 0
+FeedClause w bytes ws o = o ≡ feedOf w bytes ws
+
+-- closing the log
+abbrev pub CloseClause : Watcher → (ws : List ℕ) → Ended × List ℕ → Type 0
+CloseClause w ws o = o ≡ closeOf w ws
+
+-- how long the rule can stay open
+abbrev pub HorizonClause : Watcher → Wait → Type 0
+HorizonClause w o = horizonFor o ≡ waitOf w
