@@ -1,4 +1,4 @@
--- The work area of a call: a refused one leaves it, and an accepted one neither reads the scratch nor leaves any.
+-- The work area of an accepted call: what the scratch holds at entry does not count.
 -- Assumes nothing.
 use mathlib.Core.Path.{_≡_, refl, sym, ap, ap₂, _∙_}
 use mathlib.Core.Bool.{Bool, true, false, not, _&&_, _||_}
@@ -31,38 +31,6 @@ use Rattle.watcher.specs.Calls.{runningState, closedState}
 use Rattle.demands.specs.Areas.{Alike}
 use Rattle.watcher.proofs.HeldLaws.{held-few}
 use Rattle.watcher.proofs.Decoded.{neither, first-fine}
-
--- a refused start leaves the area, and gives a state of zeros
-pub start-untouched : (rule signals ws : List ℕ) (r : Refusal) → startOf rule signals ws .0 .found ≡ found.Refused r
-    → (startOf rule signals ws .0 .next ≡ zeroState) × (startOf rule signals ws .1 ≡ ws)
-unfolding startOf startWith
-start-untouched rule signals ws r = go (startRefusal rule signals ws)
-  where
-    go : (f : Found) → startWith f rule signals ws .0 .found ≡ found.Refused r
-        → (startWith f rule signals ws .0 .next ≡ zeroState) × (startWith f rule signals ws .1 ≡ ws)
-    go found.Fine e = let z : _≡_ {A = ℕ} 0 1 = cc in let n : ⊥ = omega arith in absurd n
-    go (found.Refused s) e = (refl, refl)
-
--- a refused record leaves state and area, and so does a refused closing
-pub feed-untouched : (w : Watcher) (bytes ws : List ℕ) (r : Refusal) → feedOf w bytes ws .0 .answer ≡ answer.Refused r
-    → (feedOf w bytes ws .0 .next ≡ w) × (feedOf w bytes ws .1 ≡ ws)
-unfolding feedOf feedWith
-feed-untouched w bytes ws r = go (feedRefusal w bytes ws)
-  where
-    go : (f : Found) → feedWith f w bytes ws .0 .answer ≡ answer.Refused r
-        → (feedWith f w bytes ws .0 .next ≡ w) × (feedWith f w bytes ws .1 ≡ ws)
-    go found.Fine e = let z : _≡_ {A = ℕ} 0 1 = cc in let n : ⊥ = omega arith in absurd n
-    go (found.Refused s) e = (refl, refl)
-
-pub close-untouched : (w : Watcher) (ws : List ℕ) (r : Refusal) → closeOf w ws .0 .answer ≡ end.Refused r
-    → (closeOf w ws .0 .next ≡ w) × (closeOf w ws .1 ≡ ws)
-unfolding closeOf closeWith
-close-untouched w ws r = go (closeRefusal w ws)
-  where
-    go : (f : Found) → closeWith f w ws .0 .answer ≡ end.Refused r
-        → (closeWith f w ws .0 .next ≡ w) × (closeWith f w ws .1 ≡ ws)
-    go found.Fine e = let z : _≡_ {A = ℕ} 0 1 = cc in let n : ⊥ = omega arith in absurd n
-    go (found.Refused s) e = (refl, refl)
 
 -- an accepted start does not look at the area
 pub start-any : (rule signals a b : List ℕ) → startRefusal rule signals a ≡ found.Fine

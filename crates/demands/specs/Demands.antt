@@ -7,8 +7,7 @@ use Prim.Native.Nat.{ℕ, _+_, _≤_, _<_}
 use lib.Dec.{eqb}
 use Rattle.meaning.specs.Rule.{Entry, holds, timeAt, Rising}
 use Rattle.meaning.specs.Meaning.{valueOf}
-use Rattle.meaning.specs.Horizon.{within, horizon}
-use Rattle.meaning.proofs.Horizons.{AllFinite}
+use Rattle.meaning.specs.Horizon.{within, horizon, AllFinite}
 use Rattle.rewriting.specs.Decode.{byteOf}
 use Rattle.watcher.specs.declared.state.Watcher.{Watcher}
 use Rattle.watcher.specs.declared.state.Word.{Word}

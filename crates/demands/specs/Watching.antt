@@ -11,6 +11,7 @@ use Rattle.watcher.specs.declared.state.End.{End}
 use Rattle.watcher.specs.declared.state.Found.the-variants.{Fine}
 use Rattle.watcher.specs.Machine.{MachineBytes, MachineWords, MachineState}
 use Rattle.watcher.specs.Calls.{startOf, feedOf, closeOf}
+use Rattle.watcher.specs.Clauses.{StartClause, FeedClause, CloseClause}
 use Rattle.watcher.specs.Runs.{Held}
 
 -- what each answers, the next state, and the work area afterwards
@@ -22,10 +23,10 @@ pub record Three : Type 0 where
 -- they meet the clauses of start, feed and close on everything that a machine can hand in
 pub record Meets (f : Three) : Type 0 where
   pub starts : (rule signals ws : List ℕ) → MachineBytes rule → MachineBytes signals → MachineWords ws
-      → f .start rule signals ws ≡ startOf rule signals ws
+      → StartClause rule signals ws (f .start rule signals ws)
   pub feeds : (w : Watcher) (bytes ws : List ℕ) → MachineState w → MachineBytes bytes → MachineWords ws
-      → f .feed w bytes ws ≡ feedOf w bytes ws
-  pub closes : (w : Watcher) (ws : List ℕ) → MachineState w → MachineWords ws → f .close w ws ≡ closeOf w ws
+      → FeedClause w bytes ws (f .feed w bytes ws)
+  pub closes : (w : Watcher) (ws : List ℕ) → MachineState w → MachineWords ws → CloseClause w ws (f .close w ws)
 
 -- the definitions themselves
 unfoldable pub defined : Three

@@ -3,8 +3,7 @@ pub mod Pieces
 pub mod Digits
 pub mod Layouts
 pub mod ReadBack
-pub mod Sizes
+pub mod Machines
 pub mod Exported
-pub mod Carried
 pub mod Feeding
 pub mod OnlyOne

@@ -11,9 +11,10 @@ use Rattle.watcher.specs.declared.state.Phase.{Phase}
 use Rattle.watcher.specs.declared.state.Phase.the-variants.{Fresh, Running, Closed}
 use Rattle.watcher.specs.declared.state.Verdict.the-variants.{Kept, Broken}
 use Rattle.watcher.specs.Limits.{listBytes}
+use Rattle.watcher.specs.Machine.{MachinePhase, MachineState}
 use Rattle.port.specs.Layout.{stateBytes, rulePlace, listPlace, recordsPlace, signalsPlace, timePlace, wordPlace}
 use Rattle.port.specs.Layout.{phasePlace, digit, phaseNumber, timeIn, signalsIn, byteAt, written, phaseWith}
-use Rattle.port.specs.Layout.{listAt, stateIn, Sized}
+use Rattle.port.specs.Layout.{listAt, stateIn}
 use Rattle.port.proofs.Digits.{little-digits}
 use Rattle.port.proofs.Layouts.{number-records, number-signals, number-time, number-word, number-phase}
 use Rattle.port.proofs.Layouts.{byte-rule, byte-list, byte-number, read-some}
@@ -110,10 +111,24 @@ phase-back (Running time signals) = refl
 phase-back (Closed Kept) = refl
 phase-back (Closed Broken) = refl
 
+-- its time has 32 bits, and its signals 16
+time-small : (p : Phase) → MachinePhase p → timeIn p < 2 ^ 32
+unfolding MachinePhase timeIn
+time-small Fresh m = omega arith
+time-small (Running time signals) m = m .0
+time-small (Closed v) m = omega arith
+
+word-small : (p : Phase) → MachinePhase p → signalsIn p < 2 ^ 16
+unfolding MachinePhase signalsIn
+word-small Fresh m = omega arith
+word-small (Running time signals) m = m .1
+word-small (Closed v) m = omega arith
+
 -- reading back what was written gives the state
-pub read-back : (w : Watcher) → Sized w → w ≡ stateIn (written w)
+pub read-back : (w : Watcher) → MachineState w → w ≡ stateIn (written w)
 read-back w s =
     read-some (written w) (w .rule) (w .list) (phaseNumber (w .phase)) (w .records) (w .signals) (timeIn (w .phase))
-    (signalsIn (w .phase)) (w .phase) (number-of-phase w) (phase-small (w .phase)) (rule-back w (s .rule))
-    (list-back w (s .list)) (time-back w (s .time)) (word-back w (s .word)) (phase-back (w .phase))
+    (signalsIn (w .phase)) (w .phase) (number-of-phase w) (phase-small (w .phase)) (rule-back w (s .long-rule))
+    (list-back w (s .long-list)) (time-back w (time-small (w .phase) (s .phase)))
+    (word-back w (word-small (w .phase) (s .phase))) (phase-back (w .phase))
     (records-back w (s .records)) (signals-back w (s .signals))

@@ -1,11 +1,10 @@
 -- A state in 280 bytes: the rule, the signal list, how many records each has, the last record's time and signals, and
 -- the phase. Numbers have their lowest byte first.
-use mathlib.Core.Path.{_≡_}
 use mathlib.Core.Bool.{cond}
 use mathlib.Core.List.{List}
-use Prim.Native.Nat.{ℕ, zero, suc, _+_, _-_, _/_, _%_, _^_, _<_}
+use Prim.Native.Nat.{ℕ, zero, suc, _+_, _-_, _/_, _%_}
 use lib.Dec.{ltb}
-use lib.ListN.{length, getD}
+use lib.ListN.{getD}
 use Rattle.ground.specs.Fold.{tab}
 use Rattle.ground.specs.Bytes.{little}
 use Rattle.watcher.specs.declared.state.Watcher.{Watcher}
@@ -109,12 +108,3 @@ stateIn bytes =
       signals = little bytes signalsPlace 8;
       phase = phaseWith (getD bytes phasePlace 0) (little bytes timePlace 4) (little bytes wordPlace 2);
     })
-
--- what a machine's state has: lists of 128 bytes, and numbers within 64, 32 and 16 bits
-pub record Sized (w : Watcher) : Type 0 where
-  pub rule : length (w .rule) ≡ listBytes
-  pub list : length (w .list) ≡ listBytes
-  pub records : w .records < 2 ^ 64
-  pub signals : w .signals < 2 ^ 64
-  pub time : timeIn (w .phase) < 2 ^ 32
-  pub word : signalsIn (w .phase) < 2 ^ 16

@@ -1,14 +1,10 @@
 -- The numbers that each call tests, in order; answers with the same number, or the same value, are the same answer.
 -- Assumes nothing.
 use mathlib.Core.Path.{_≡_, refl, sym, ap, _∙_}
-use mathlib.Core.Bool.{Bool, true, false, cond}
 use mathlib.Core.List.{List, [], _∷_}
 use Prim.Native.Nat.{ℕ}
-use native.Mathlib.Omega.{arith}
 use lib.ListN.{getD}
 use Rattle.watcher.specs.declared.state.Watcher.{Watcher}
-use Rattle.watcher.specs.declared.state.Found.{Found}
-use Rattle.watcher.specs.declared.state.Found.the-variants.{Refused}
 use Rattle.watcher.specs.declared.state.Verdict.{Verdict}
 use Rattle.watcher.specs.declared.state.Verdict.the-variants.{Kept, Broken}
 use Rattle.watcher.specs.declared.state.Refusal.{Refusal}
@@ -24,8 +20,8 @@ use Rattle.watcher.specs.declared.state.Wait.{Wait}
 use Rattle.watcher.specs.declared.state.Wait.the-variants as wait
 use Rattle.watcher.specs.Numbers.{wordOf, saying, verdictValue, verdictFor, horizonFor}
 use Rattle.watcher.specs.Numbers.{Stage, fresh, running, closed, stageOf, refusalNumber}
-use Rattle.watcher.specs.Numbers.{heldOf, numbersOf, firstNumber}
-use Rattle.watcher.specs.Lists.{Test, firstRefusal, listTests}
+use Rattle.watcher.specs.Numbers.{numbersOf}
+use Rattle.watcher.specs.Lists.{listTests}
 use Rattle.watcher.specs.Calls.{startTests, stateTests, feedTests, closeTests}
 
 -- the numbers of start's tests, of feed's and of close's
@@ -41,18 +37,6 @@ feed-numbers w bytes ws = refl
 pub close-numbers : (w : Watcher) (ws : List ℕ) → numbersOf (closeTests w ws) ≡ 7 ∷ 12 ∷ 10 ∷ 11 ∷ []
 unfolding refusalNumber stateTests
 close-numbers w ws = refl
-
--- where tests refuse, the refusal's number is that of the first test that holds
-first-is : (b : Bool) (given r : Refusal) (rest : Found) (n : ℕ) → cond b (Refused given) rest ≡ Refused r
-    → (rest ≡ Refused r → n ≡ refusalNumber r) → cond b (refusalNumber given) n ≡ refusalNumber r
-first-is true given r rest n e more = let same : given ≡ r = cc in ap refusalNumber same
-first-is false given r rest n e more = more e
-
-pub numbered : (tests : List Test) (r : Refusal) → firstRefusal tests ≡ Refused r
-    → firstNumber (heldOf tests) (numbersOf tests) ≡ refusalNumber r
-unfolding firstRefusal
-numbered [] r e = let z : _≡_ {A = ℕ} 0 1 = cc in let y : ⊥ = omega arith in absurd y
-numbered (t ∷ tests) r e = first-is (t .holds) (t .gives) r _ _ e (numbered tests r)
 
 -- the refusals from number 1 on
 abbrev refusals : List Refusal

@@ -1,7 +1,7 @@
 -- Document 01's number or value for each case of an answer.
 use Prim.Native.Nat.{ℕ}
-use mathlib.Core.Bool.{Bool, true, false, cond}
-use mathlib.Core.List.{List, [], _∷_, map}
+use mathlib.Core.Bool.{Bool, true, false}
+use mathlib.Core.List.{List, map}
 use Rattle.meaning.specs.Rule.{Entry}
 use Rattle.meaning.specs.Horizon.{Horizon, within, never}
 use Rattle.meaning.specs.Words as words
@@ -73,15 +73,6 @@ refusalNumber AlreadyClosed = 10
 refusalNumber NothingFed = 11
 refusalNumber BrokenState = 12
 
--- of a list of tests, which hold and what their numbers are, in its order
-abbrev pub heldOf : List Test → List Bool
-heldOf tests = map (λ t. t .holds) tests
-
+-- the numbers of a list of tests, in its order
 abbrev pub numbersOf : List Test → List ℕ
 numbersOf tests = map (λ t. refusalNumber (t .gives)) tests
-
--- the number that stands where the first test holds
-abbrev pub firstNumber : List Bool → List ℕ → ℕ
-firstNumber [] numbers = 0
-firstNumber (held ∷ more) [] = 0
-firstNumber (held ∷ more) (n ∷ numbers) = cond held n (firstNumber more numbers)

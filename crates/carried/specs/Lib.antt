@@ -1,0 +1,3 @@
+pub mod Exporting
+pub mod Calls
+pub mod Runs

@@ -1,0 +1,1 @@
+// No code: what the exports answer and write, by the owner's demands.
