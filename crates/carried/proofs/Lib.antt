@@ -1,0 +1,5 @@
+pub mod Steps
+pub mod Calls
+pub mod Coding
+pub mod Feeding
+pub mod Runs

@@ -6,7 +6,6 @@ use lib.ListN.{length}
 use Rattle.watcher.specs.declared.state.Watcher.{Watcher}
 use Rattle.watcher.specs.Calls.{startOf}
 use Rattle.watcher.specs.Machine.{MachineBytes, MachineWords}
-use Rattle.watcher.specs.Runs.{Held}
 use Rattle.demands.specs.Watching.{defined, Call, feeding, closing, told, ending, reached, MachineCalls}
 use Rattle.port.specs.Layout.{stateBytes, stateIn}
 use Rattle.port.specs.Codes.{foundCode, answerCode, endCode}

@@ -12,7 +12,7 @@ use Rattle.watcher.specs.Records.{wrongRecord, timeOf}
 use Rattle.watcher.specs.Numbers.{saying, verdictFor}
 use Rattle.watcher.specs.Machine.{MachineBytes, MachineWords}
 use Rattle.watcher.specs.Runs.{pieces, decided}
-use Rattle.demands.specs.Watching.{Call, feeding}
+use Rattle.demands.specs.Watching.{feeding}
 use Rattle.demands.specs.Logs.{lastTime, accepts, logWith, logOf}
 use Rattle.demands.specs.Rewritten.{readRule, heldAfter, heldClosed, wordAfter}
 use Rattle.demands.specs.Tables.{startTable, Given, NoneHolds}

@@ -11,24 +11,21 @@ use borrow.Author.Tests.{eqb-true}
 use Rattle.meaning.specs.Rule.{Entry}
 use Rattle.meaning.specs.Meaning.{valueOf}
 use Rattle.meaning.specs.Horizon.{Horizon, within, never}
-use Rattle.meaning.specs.Words.{Known, first, feed, fed, after, close, Word, kept, broken, pending, word}
+use Rattle.meaning.specs.Words.{first, fed, after, Word, kept, broken, pending, word}
 use Rattle.watcher.specs.declared.state.Found.{Found}
 use Rattle.watcher.specs.declared.state.Found.the-variants.{Fine, Refused}
 use Rattle.watcher.specs.declared.state.Refusal.{Refusal}
-use Rattle.watcher.specs.declared.state.End.the-variants as end
 use Rattle.watcher.specs.Limits.{areaWords}
-use Rattle.watcher.specs.Numbers.{refusalNumber, saying, verdictValue, verdictFor}
+use Rattle.watcher.specs.Numbers.{refusalNumber, verdictValue, verdictFor}
 use Rattle.watcher.specs.Rules.{recordsOf}
 use Rattle.watcher.specs.Records.{entryOf}
 use Rattle.watcher.specs.Lists.{listsRefusal}
 use Rattle.watcher.specs.Calls.{startRefusal, startOf, startWith, waitOf}
-use Rattle.watcher.specs.Runs.{Held}
-use Rattle.watcher.proofs.Decoded.{Accepted, fine-tests}
-use Rattle.demands.specs.Watching.{defined, Call, feeding, told, ending, handed, reached, handedOn}
+use Rattle.watcher.proofs.Decoded.{Accepted}
+use Rattle.demands.specs.Watching.{defined, feeding, told, ending}
 use Rattle.demands.specs.Logs.{accepts, logWith, going, further, furtherBy, courseOf, logIn}
 use Rattle.demands.specs.Rewritten.{readRule, parametersIn, heldAfter, heldIn, wordAfter}
 use Rattle.demands.specs.Tables.{Carries}
-use Rattle.demands.specs.Demands.{Says}
 use Rattle.demands.specs.Examples.{Row, says, winds, accepted, refused, waits, table, isFine, refusedWith, allIn}
 use Rattle.demands.specs.Examples.{valueWord, wordNumber, sameWords, horizonNumber, wordsFrom, wordsOf, seen}
 use Rattle.demands.specs.Examples.{allTaken, right, windRight, passes, GetWords, EndsWith, Run, WindRun, AllOf}

@@ -10,7 +10,6 @@ use Rattle.meaning.specs.Words.{broken}
 use Rattle.meaning.proofs.Theorems.{wordOf}
 use Rattle.watcher.specs.declared.state.Word as said
 use Rattle.watcher.specs.declared.state.Word.the-variants as told
-use Rattle.watcher.specs.declared.state.Verdict.{Verdict}
 use Rattle.watcher.specs.declared.state.Verdict.the-variants as verdict
 use Rattle.watcher.specs.declared.state.Found.{Found}
 use Rattle.watcher.specs.declared.state.Found.the-variants.{Fine}
@@ -24,16 +23,16 @@ use Rattle.watcher.specs.declared.state.Ended.{Ended}
 use Rattle.watcher.specs.Numbers.{saying, verdictValue}
 use Rattle.watcher.specs.Calls.{startOf, feedOf, closeOf}
 use Rattle.watcher.specs.Runs.{Held}
-use Rattle.demands.specs.Watching.{Three, Meets, defined, feeding, closing, handed}
+use Rattle.demands.specs.Watching.{Three, Meets, defined, handed}
 use Rattle.demands.specs.Logs.{going}
 use Rattle.demands.specs.Rewritten.{heldIn}
 use Rattle.demands.specs.Demands.{Says}
 use Rattle.demands.specs.Tables.{foundIn, foundAt, Carries}
-use Rattle.demands.specs.Examples.{vents, EndsWith, valueWord}
+use Rattle.demands.specs.Examples.{vents, EndsWith}
 use Rattle.demands.specs.BadWatchers.{RefusesStarts, RefusesRecords, RefusesClosing, StartsUntouched}
 use Rattle.demands.specs.BadWatchers.{FeedsUntouched, ClosesUntouched, NeverSaysBroken, NeverEndsBroken, OnlyNods}
 use Rattle.demands.proofs.Following.{MachineHeld}
-use Rattle.demands.proofs.ExampleTwo.{area, area-first, rule, one, two, begun, two-bytes, heldOne, held-one}
+use Rattle.demands.proofs.ExampleTwo.{area, area-first, rule, two, begun, two-bytes, heldOne, held-one}
 use Rattle.demands.proofs.ExampleTwo.{says-two, heldTwo, held-two, ends-two, tells, tells-one, tells-two}
 use Rattle.demands.proofs.ExampleTwo.{tells-closed, runs, starts-alike}
 

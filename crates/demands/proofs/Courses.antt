@@ -2,7 +2,7 @@
 -- Assumes nothing.
 use mathlib.Core.Path.{_≡_, refl, sym, ap, ap₂, _∙_, subst}
 use mathlib.Core.Bool.{Bool, true, false, cond}
-use mathlib.Core.List.{List, [], _∷_, _++_}
+use mathlib.Core.List.{List, [], _∷_}
 use Prim.Native.Nat.{ℕ, _≤_, _<_}
 use native.Mathlib.Omega.{arith}
 use lib.Dec.{ltb}
@@ -13,7 +13,6 @@ use Rattle.meaning.specs.Meaning.{valueOf}
 use Rattle.meaning.specs.Words.{Known, first, fed, after, word}
 use Rattle.meaning.specs.Words as words
 use Rattle.rewriting.specs.Known.{areaOf}
-use Rattle.watcher.specs.declared.state.Phase.the-variants as phase
 use Rattle.watcher.specs.declared.state.Refusal.{Refusal}
 use Rattle.watcher.specs.declared.state.Refusal.the-variants.{LogRecord, LogTime, NothingFed, AlreadyClosed}
 use Rattle.watcher.specs.declared.state.Found.the-variants.{Fine, Refused}
@@ -26,7 +25,7 @@ use Rattle.watcher.specs.Records.{wrongRecord, timeOf, entryOf}
 use Rattle.watcher.specs.Numbers.{saying, verdictFor, stageOf}
 use Rattle.watcher.specs.State.{brokenState}
 use Rattle.watcher.specs.Calls.{wrongArea, isClosed, isFresh, tooEarly, startOf, startWith, startRefusal, feedOf}
-use Rattle.watcher.specs.Calls.{freshState, runningState, closedState, feedRefusal, closeRefusal, closeOf}
+use Rattle.watcher.specs.Calls.{freshState, runningState, closedState, feedRefusal, closeRefusal}
 use Rattle.watcher.specs.Runs.{Held}
 use Rattle.watcher.proofs.Decoded.{Accepted}
 use Rattle.demands.specs.Watching.{defined, Call, feeding, closing, told, ending, handed, handedOn, reached}
@@ -36,7 +35,7 @@ use Rattle.demands.specs.Rewritten.{readRule, parametersIn, heldKnown, h
 use Rattle.demands.specs.Demands.{Says}
 use Rattle.demands.proofs.OwnStates.{start-accepted, stateIn, fresh-fine, running-fine, closed-fine}
 use Rattle.demands.proofs.Feeding.{feed-wrong, feed-early, close-nothing, closed-refuses, refused-feed}
-use Rattle.demands.proofs.Feeding.{refused-close, area-right, FedInto, ClosedInto, feed-first, feed-later}
+use Rattle.demands.proofs.Feeding.{refused-close, area-right, FedInto, feed-first, feed-later}
 use Rattle.demands.proofs.Feeding.{close-known}
 use Rattle.demands.proofs.Judging.{Judged, taken, wrong, early, judge}
 use Rattle.demands.proofs.Logs.{Right, right-rising, right-none, right-further, fed-more, last-known}

@@ -12,17 +12,15 @@ use Rattle.meaning.specs.Horizon.{within, horizon}
 use Rattle.meaning.specs.Words as words
 use Rattle.meaning.proofs.Theorems.{wordOf}
 use Rattle.watcher.specs.declared.state.Word.{Word}
-use Rattle.watcher.specs.declared.state.Verdict.{Verdict}
 use Rattle.watcher.specs.declared.state.Refusal.{Refusal}
 use Rattle.watcher.specs.declared.state.Answer.{Answer}
 use Rattle.watcher.specs.declared.state.Answer.the-variants as answer
-use Rattle.watcher.specs.declared.state.End.{End}
 use Rattle.watcher.specs.declared.state.End.the-variants as end
 use Rattle.watcher.specs.Rules.{recordsOf}
 use Rattle.watcher.specs.Records.{timeOf, entryOf}
 use Rattle.watcher.specs.Numbers.{saying, verdictFor}
 use Rattle.watcher.specs.Numbers as numbers
-use Rattle.watcher.specs.Runs.{Held, decided}
+use Rattle.watcher.specs.Runs.{decided}
 use Rattle.watcher.proofs.Decoded.{Accepted}
 use Rattle.demands.specs.Watching.{defined, Call, feeding, told, ending}
 use Rattle.demands.specs.Logs.{lastTime, accepts, logWith, Course, going, over, further, furtherBy, courseOf}
@@ -30,10 +28,10 @@ use Rattle.demands.specs.Logs.{logIn, logOf}
 use Rattle.demands.specs.Rewritten.{readRule, heldAfter, heldIn, wordAfter}
 use Rattle.demands.specs.Demands.{Says}
 use Rattle.demands.proofs.Judging.{Judged, taken, wrong, early, judge}
-use Rattle.demands.proofs.Logs.{Right, right-rising, right-more, right-none, right-all, further-parts}
+use Rattle.demands.proofs.Logs.{Right, right-rising, right-none, right-all, further-parts}
 use Rattle.demands.proofs.Logs.{further-log, last-more}
 use Rattle.demands.proofs.Values.{log-holds, log-stays, log-settled}
-use Rattle.demands.proofs.Courses.{ready-after, wrong-stays, early-stays, fed-turn, close-none, close-some}
+use Rattle.demands.proofs.Courses.{ready-after, wrong-stays, early-stays, fed-turn, close-some}
 use Rattle.demands.proofs.Courses.{closed-stays}
 
 -- an answer has one word, and a refusal none
@@ -45,14 +43,6 @@ says-one (answer.Refused r) v w p q = absurd p
 says-not : (a : Answer) (r : Refusal) (w : Word) → a ≡ answer.Refused r → Says a w → ⊥
 unfolding Says
 says-not a r w e s = subst (λ x. Says x w) e s
-
--- a refused closing has no verdict, and an accepted one the one that it says
-closed-not : (a : End) (r : Refusal) (v : Verdict) → a ≡ end.Refused r → a ≡ end.Closed v → ⊥
-closed-not a r v p q =
-    let e : end.Refused r ≡ end.Closed v = sym p ∙ q in let z : _≡_ {A = ℕ} 0 1 = cc in omega arith
-
-closed-one : (a : End) (u v : Verdict) → a ≡ end.Closed u → a ≡ end.Closed v → v ≡ u
-closed-one a u v p q = cc
 
 -- the word that is told is the meaning's
 unsaid : (w : words.Word) → numbers.wordOf (saying w) ≡ w
@@ -132,14 +122,11 @@ module _ (rule signals : List ℕ) (fine : Accepted rule signals) where
       go (wrong b n) = let z : _≡_ {A = ℕ} 0 1 = cc in let x : ⊥ = omega arith in absurd x
       go (early b n h) = let z : _≡_ {A = ℕ} 0 1 = cc in let x : ⊥ = omega arith in absurd x
 
-  -- a verdict is that of the log
-  verdict-told : (course : Course) → Right signals (logIn course) → (v : Verdict)
-      → ending defined (heldIn rule signals course) ≡ end.Closed v
-      → v ≡ verdictFor (valueOf (logIn course) (readRule rule))
-  unfolding heldIn logIn
-  verdict-told (over e es) r v s = absurd (closed-not _ _ v (closed-stays rule signals fine e es r [] .1 .0) s)
-  verdict-told (going []) r v s = absurd (closed-not _ _ v (close-none rule signals fine .0) s)
-  verdict-told (going (e ∷ es)) r v s = closed-one _ _ v (close-some rule signals fine e es r .0) s
+  -- closing a log that is not empty reports its value
+  closes : (log : List Entry) → Right signals log → 0 < length log
+      → ending defined (heldAfter rule signals log) ≡ end.Closed (verdictFor (valueOf log (readRule rule)))
+  closes [] r h = let z : ⊥ = omega arith in absurd z
+  closes (e ∷ es) r h = close-some rule signals fine e es r .0
 
   -- the logs of calls are right
   pub course-right : (calls : List Call) → Right signals (logOf signals calls)
@@ -191,17 +178,19 @@ module _ (rule signals : List ℕ) (fine : Accepted rule signals) where
             ∙ said b
 
         -- and closing agrees
-        pub told-agrees : (v : Verdict)
-            → ending defined (heldIn rule signals (courseOf signals (calls ++ (feeding bytes ∷ more))))
-            ≡ end.Closed v
-            → v ≡ verdictFor b
-        told-agrees v s =
-            let r = course-right (calls ++ (feeding bytes ∷ more)) in
-            verdict-told (courseOf signals (calls ++ (feeding bytes ∷ more))) r v s
-            ∙ ap (λ x. verdictFor (valueOf x (readRule rule))) (later-log .1)
-            ∙ ap verdictFor
-            (log-holds rule signals fine log (some-with signals (t .log) bytes) b log-word (later-log .0)
-            (subst Rising (later-log .1) (right-rising signals _ r)))
+        pub told-agrees : (all : List Entry) → courseOf signals (calls ++ (feeding bytes ∷ more)) ≡ going all
+            → ending defined (heldAfter rule signals all) ≡ end.Closed (verdictFor b)
+        unfolding logIn
+        told-agrees all c =
+            let r : Right signals all
+            = subst (λ x. Right signals (logIn x)) c (course-right (calls ++ (feeding bytes ∷ more))) in
+            let same : all ≡ log ++ later-log .0 = sym (ap logIn c) ∙ later-log .1 in
+            let some = some-with signals (t .log) bytes in
+            closes all r (subst (λ x. 0 < length x) (sym same) (some-more log (later-log .0) some))
+            ∙ ap (λ x. end.Closed (verdictFor (valueOf x (readRule rule)))) same
+            ∙ ap (λ v. end.Closed (verdictFor v))
+            (log-holds rule signals fine log some b log-word (later-log .0)
+            (subst Rising same (right-rising signals all r)))
 
     -- past the first record's time by more than the horizon, none is pending
     pub told-settled : (w : Word) → Told rule signals (courseOf signals calls) bytes w → (h : ℕ)

@@ -1,13 +1,12 @@
 -- The owner's three demands hold of any three functions that meet the clauses of start, feed and close.
 -- Assumes nothing.
 use mathlib.Core.Path.{_≡_, refl, sym, ap, _∙_, subst}
-use mathlib.Core.Bool.{Bool, true, false, not, cond}
+use mathlib.Core.Bool.{false, not, cond}
 use mathlib.Core.List.{List, [], _∷_, _++_}
-use Prim.Native.Nat.{ℕ, _≤_, _<_}
+use Prim.Native.Nat.{ℕ}
 use native.Mathlib.Omega.{arith}
 use lib.Dec.{eqb, leb}
-use borrow.Author.Tests.{lt-leb, eq-eqb}
-use Rattle.ground.specs.Bits.{bit}
+use borrow.Author.Tests.{lt-leb}
 use Rattle.ground.proofs.Numbers.{bit-ofBits}
 use Rattle.meaning.specs.Rule.{Entry, holds}
 use Rattle.rewriting.specs.Decode.{byteOf}
@@ -20,8 +19,7 @@ use Rattle.watcher.specs.declared.state.Ended.{Ended}
 use Rattle.watcher.specs.declared.state.Word.{Word}
 use Rattle.watcher.specs.Limits.{mostSignals}
 use Rattle.watcher.specs.Signals.{limitOf}
-use Rattle.watcher.specs.Records.{windMeets, meets, signalHolds, signalWord, entryOf}
-use Rattle.watcher.specs.Speed.{notSlower, perSecond, windSpeed}
+use Rattle.watcher.specs.Records.{meets, signalHolds, signalWord, entryOf}
 use Rattle.watcher.specs.Lists.{listTests}
 use Rattle.watcher.specs.Numbers.{refusalNumber, saying}
 use Rattle.watcher.specs.Calls.{zeroState, startRefusal, startWith, startOf, stateTests, feedRefusal, feedWith, feedOf}
@@ -36,8 +34,8 @@ use Rattle.demands.specs.Logs.{logWith, going, courseOf, logIn}
 use Rattle.demands.specs.Rewritten.{heldIn, wordAfter}
 use Rattle.demands.specs.Tables.{startTable, feedTable, closeTable, foundIn, foundAt, Carries, AsTable}
 use Rattle.demands.specs.Demands.{Says, Demand1, ClosingReports, StateIsRewritten, WordIsRewritten, WindIsExact}
-use Rattle.demands.specs.Demands.{Demand2, Decides, WordHolds, WordStays, ClosingAgrees, DecidedBy}
-use Rattle.demands.specs.Demands.{FiniteIsDecided, HorizonDecides, Demand3, Demands}
+use Rattle.demands.specs.Demands.{WordHolds, WordStays, ClosingAgrees}
+use Rattle.demands.specs.Demands.{FiniteIsDecided, HorizonDecides, Demands}
 use Rattle.demands.proofs.OwnStates.{start-accepted}
 use Rattle.demands.proofs.Tabled.{as-table}
 use Rattle.demands.proofs.Logs.{Right}
@@ -205,11 +203,13 @@ module _ (f : Three) (right : Meets f) where
         (machine-more calls bytes more (d .called) (d .fed) machine) later p w s)
 
     closing-agrees : ClosingAgrees f rule signals ws
-    closing-agrees calls bytes b d more machine v s =
-        told-agrees rule signals (accepted (d .begun)) calls bytes b
-        (told-here (d .begun) calls (d .called) bytes (d .fed) (decided b) (d .says)) more v
-        (sym (ending-is f right rule signals ws (d .begun) (calls ++ (feeding bytes ∷ more))
-        (machine-more calls bytes more (d .called) (d .fed) machine)) ∙ s)
+    unfolding heldIn
+    closing-agrees calls bytes b d more machine log c =
+        ending-is f right rule signals ws (d .begun) (calls ++ (feeding bytes ∷ more))
+        (machine-more calls bytes more (d .called) (d .fed) machine)
+        ∙ ap (λ x. ending defined (heldIn rule signals x)) c
+        ∙ told-agrees rule signals (accepted (d .begun)) calls bytes b
+        (told-here (d .begun) calls (d .called) bytes (d .fed) (decided b) (d .says)) more log c
 
     horizon-decides : HorizonDecides f rule signals ws
     horizon-decides begun h limit calls machine bytes p w s past =

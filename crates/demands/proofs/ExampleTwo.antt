@@ -3,7 +3,7 @@
 use mathlib.Core.Path.{_≡_, refl, sym, ap, _∙_, subst}
 use mathlib.Core.Bool.{Bool, true, cond, and-eq-true-iff}
 use mathlib.Core.Logic.{⊎-elim}
-use mathlib.Core.List.{List, [], _∷_, map}
+use mathlib.Core.List.{List, [], _∷_}
 use Prim.Native.Nat.{ℕ, zero, suc, _^_, _≤_, _<_}
 use native.Mathlib.Omega.{arith}
 use lib.Dec.{ltb, lit<}
@@ -28,12 +28,12 @@ use Rattle.watcher.specs.Calls.{startOf, runningState}
 use Rattle.watcher.specs.Machine.{MachineBytes, MachineWords}
 use Rattle.watcher.specs.Runs.{Held}
 use Rattle.watcher.proofs.Decoded.{Accepted}
-use Rattle.demands.specs.Watching.{defined, Call, feeding, closing, told, ending, handed, handedOn, reached}
+use Rattle.demands.specs.Watching.{defined, feeding, closing, told, ending, handed, handedOn, reached}
 use Rattle.demands.specs.Watching.{MachineCall, MachineCalls, Begun}
-use Rattle.demands.specs.Logs.{accepts, logWith, going, further, furtherBy, courseOf, logIn}
+use Rattle.demands.specs.Logs.{accepts, logWith, going, furtherBy, courseOf, logIn}
 use Rattle.demands.specs.Rewritten.{readRule, parametersIn, heldKnown, heldAfter, heldClosed, heldIn, wordAfter}
 use Rattle.demands.specs.Demands.{Says}
-use Rattle.demands.specs.Examples.{table, Answers, ruleA, vents, at, Run, EndsWith, GetWords, allIn}
+use Rattle.demands.specs.Examples.{table, Answers, ruleA, vents, at, Run, EndsWith, allIn}
 use Rattle.demands.proofs.OwnStates.{start-accepted, few-parameters}
 use Rattle.demands.proofs.Logs.{Right, right-none, right-taken}
 use Rattle.demands.proofs.Courses.{feed-further, close-some}

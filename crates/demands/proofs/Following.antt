@@ -9,7 +9,7 @@ use Rattle.watcher.specs.declared.state.Ended.{Ended}
 use Rattle.watcher.specs.declared.state.Found.{Found}
 use Rattle.watcher.specs.declared.state.Found.the-variants.{Fine, Refused}
 use Rattle.watcher.specs.Machine.{MachineBytes, MachineWords, MachineState}
-use Rattle.watcher.specs.Calls.{startRefusal, startWith, startOf, feedOf, closeOf}
+use Rattle.watcher.specs.Calls.{startRefusal, startWith, startOf}
 use Rattle.watcher.specs.Runs.{Held}
 use Rattle.watcher.proofs.Machines.{machine-start, machine-feed, machine-close}
 use Rattle.demands.specs.Watching.{Three, Meets, defined, Call, feeding, closing, told, ending, handed, handedOn}

@@ -1,33 +1,28 @@
 -- The watcher never refuses its own work, and refuses the rest by document 01's numbers.
 -- Assumes nothing.
 use mathlib.Core.Path.{_≡_, refl, sym, ap, ap₂, _∙_, subst}
-use mathlib.Core.Bool.{true, false, cond}
+use mathlib.Core.Bool.{cond}
 use mathlib.Core.List.{List, [], _∷_}
 use Prim.Native.Nat.{ℕ, _<_}
 use Rattle.forms.specs.Form.{constant}
 use Rattle.forms.specs.Area.{rowAt}
-use Rattle.meaning.specs.Rule.{Entry}
 use Rattle.meaning.specs.Meaning.{valueOf}
 use Rattle.meaning.specs.Horizon.{never, horizon}
 use Rattle.meaning.specs.Words.{Known, after}
 use Rattle.watcher.specs.declared.state.Phase.{Phase}
 use Rattle.watcher.specs.declared.state.Phase.the-variants as phase
-use Rattle.watcher.specs.declared.state.Ended.{Ended}
-use Rattle.watcher.specs.declared.state.Answer.{Answer}
-use Rattle.watcher.specs.declared.state.End.{End}
 use Rattle.watcher.specs.Limits.{mostParameters}
-use Rattle.watcher.specs.Records.{wrongRecord, timeOf}
 use Rattle.watcher.specs.Numbers.{refusalNumber}
 use Rattle.watcher.specs.Calls.{freshState, runningState, closedState, waitOf}
 use Rattle.watcher.specs.Machine.{MachineBytes}
 use Rattle.watcher.specs.Runs.{Held}
 use Rattle.watcher.proofs.Decoded.{Accepted}
-use Rattle.demands.specs.Watching.{Three, Meets, defined, Call, closing, told, ending, handed, reached}
-use Rattle.demands.specs.Watching.{MachineCall, MachineCalls, Begun}
+use Rattle.demands.specs.Watching.{Three, Meets, defined, closing, told, ending, handed, reached}
+use Rattle.demands.specs.Watching.{MachineCall}
 use Rattle.demands.specs.Logs.{lastTime, Course, going, over, courseOf, logIn}
 use Rattle.demands.specs.Rewritten.{readRule, parametersIn, heldKnown, heldAfter, heldClosed, heldIn}
 use Rattle.demands.specs.Tables.{foundIn, foundAt, Carries}
-use Rattle.demands.specs.OwnWork.{OwnWork, OwnWorkIsFine}
+use Rattle.demands.specs.OwnWork.{OwnWorkIsFine}
 use Rattle.demands.proofs.OwnRows.{past-laid}
 use Rattle.demands.proofs.OwnStates.{start-accepted, stateIn, rule-in, lists-in}
 use Rattle.demands.proofs.Logs.{Right}

@@ -14,8 +14,6 @@ use Rattle.meaning.specs.Rule.{Node, Entry}
 use Rattle.meaning.specs.Words.{Known, leave, feed, close, valueIfLast, word}
 use Rattle.rewriting.specs.Known.{formAt, pastIn, knownIn, areaOf}
 use Rattle.watcher.specs.declared.state.Watcher.{Watcher}
-use Rattle.watcher.specs.declared.state.Refusal.{Refusal}
-use Rattle.watcher.specs.declared.state.Found.{Found}
 use Rattle.watcher.specs.declared.state.Found.the-variants as found
 use Rattle.watcher.specs.declared.state.Answer.the-variants as answer
 use Rattle.watcher.specs.declared.state.End.the-variants as end
@@ -25,7 +23,7 @@ use Rattle.watcher.specs.State.{parametersOf, startRefuses, notZerosBehind, sig
 use Rattle.watcher.specs.State.{notZeroFrom, wrongRows, wrongInPhase, brokenState, ruleOf}
 use Rattle.watcher.specs.Records.{entryOf}
 use Rattle.watcher.specs.Lists.{Test, firstRefusal}
-use Rattle.watcher.specs.Calls.{wrongArea, stateTests, startRefusal, feedRefusal, closeRefusal, zeroState}
+use Rattle.watcher.specs.Calls.{wrongArea, stateTests, startRefusal, feedRefusal, closeRefusal}
 use Rattle.watcher.specs.Calls.{startWith, startOf, feedWith, feedOf, closeWith, closeOf, knownNext, knownNow}
 use Rattle.watcher.specs.Calls.{runningState, closedState}
 use Rattle.demands.specs.Areas.{Alike}

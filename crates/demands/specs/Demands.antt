@@ -11,7 +11,6 @@ use Rattle.meaning.specs.Horizon.{within, horizon, AllFinite}
 use Rattle.rewriting.specs.Decode.{byteOf}
 use Rattle.watcher.specs.declared.state.Watcher.{Watcher}
 use Rattle.watcher.specs.declared.state.Word.{Word}
-use Rattle.watcher.specs.declared.state.Verdict.{Verdict}
 use Rattle.watcher.specs.declared.state.Answer.{Answer}
 use Rattle.watcher.specs.declared.state.Answer.the-variants.{Accepted, Refused}
 use Rattle.watcher.specs.declared.state.End.the-variants.{Closed}
@@ -111,12 +110,12 @@ module _ (f : Three) (rule signals ws : List ℕ) where
       → MachineCalls more → (later : List ℕ) → MachineBytes later → (w : Word)
       → Says (told f (reached f rule signals ws (calls ++ (feeding bytes ∷ more))) later) w → w ≡ decided b
 
-  -- and closing agrees with it
+  -- and closing agrees with it, as long as nobody has closed the log before
   abbrev pub ClosingAgrees : Type 0
   ClosingAgrees =
       (calls : List Call) (bytes : List ℕ) (b : Bool) → Decides f rule signals ws calls bytes b → (more : List Call)
-      → MachineCalls more → (v : Verdict)
-      → ending f (reached f rule signals ws (calls ++ (feeding bytes ∷ more))) ≡ Closed v → v ≡ verdictFor b
+      → MachineCalls more → (log : List Entry) → courseOf signals (calls ++ (feeding bytes ∷ more)) ≡ going log
+      → ending f (reached f rule signals ws (calls ++ (feeding bytes ∷ more))) ≡ Closed (verdictFor b)
 
   -- a record whose time is past the first accepted record's by more than h minutes is decided
   abbrev pub DecidedBy : ℕ → Type 0

@@ -1,4 +1,4 @@
--- Codes: a refusal's number fits a byte, and a code goes by the case.
+-- Codes: a refusal's number is no other code, and a code goes by the case.
 -- Assumes nothing.
 use mathlib.Core.Path.{_≡_, sym, ap, _∙_}
 use Prim.Native.Nat.{ℕ, _<_}
@@ -9,21 +9,26 @@ use Rattle.watcher.specs.declared.state.Refusal.the-variants.{SignalList, Signa
 use Rattle.watcher.specs.declared.state.Refusal.the-variants.{AreaLength, LogRecord, LogTime}
 use Rattle.watcher.specs.declared.state.Refusal.the-variants.{AlreadyClosed, NothingFed, BrokenState}
 use Rattle.watcher.specs.Numbers.{refusalNumber}
+use Rattle.port.specs.Codes.{codesLength}
+
+-- a refusal's number is below the exports' own, and so fits a byte
+pub number-low : (r : Refusal) → refusalNumber r < codesLength
+unfolding refusalNumber
+number-low RuleLength = omega arith
+number-low RuleRecord = omega arith
+number-low RuleTwins = omega arith
+number-low RuleParameters = omega arith
+number-low SignalList = omega arith
+number-low SignalMissing = omega arith
+number-low AreaLength = omega arith
+number-low LogRecord = omega arith
+number-low LogTime = omega arith
+number-low AlreadyClosed = omega arith
+number-low NothingFed = omega arith
+number-low BrokenState = omega arith
 
 pub number-small : (r : Refusal) → refusalNumber r < 256
-unfolding refusalNumber
-number-small RuleLength = omega arith
-number-small RuleRecord = omega arith
-number-small RuleTwins = omega arith
-number-small RuleParameters = omega arith
-number-small SignalList = omega arith
-number-small SignalMissing = omega arith
-number-small AreaLength = omega arith
-number-small LogRecord = omega arith
-number-small LogTime = omega arith
-number-small AlreadyClosed = omega arith
-number-small NothingFed = omega arith
-number-small BrokenState = omega arith
+number-small r = omega (arith, number-low r)
 
 -- a code goes by the case that an answer is
 pub told : {A : Type 0} (code : A → ℕ) (x y : A) (r : ℕ) → x ≡ y → r ≡ code y → r ≡ code x

@@ -12,7 +12,6 @@ use Rattle.ground.proofs.ByteLaws.{little-lt}
 use Rattle.ground.proofs.Folds.{less-or-not}
 use Rattle.ground.proofs.Numbers.{ofBits-lt, zero-at}
 use Rattle.ground.proofs.Tabs.{length-tab, getD-tab, getD-tab-out}
-use Rattle.meaning.specs.Rule.{Entry}
 use Rattle.rewriting.proofs.Placed.{small-areaOf}
 use Rattle.watcher.specs.declared.state.Watcher.{Watcher}
 use Rattle.watcher.specs.declared.state.Found.{Found}
