@@ -15,7 +15,7 @@ use Rattle.meaning.specs.Rule.{Entry}
 use Rattle.meaning.specs.Meaning.{valueOf}
 use Rattle.meaning.specs.Words.{Known, Word, pending, broken, after, fed, first, word}
 use Rattle.meaning.proofs.Theorems.{wordOf, word-constant}
-use Rattle.rewriting.specs.Known.{formAt}
+use Rattle.rewriting.specs.Known.{wordsFor, formAt}
 use Rattle.rewriting.proofs.Placed.{read-remainder}
 use Rattle.watcher.specs.declared.state.Word as said
 use Rattle.watcher.specs.declared.state.Word.the-variants as told
@@ -56,7 +56,7 @@ unfolding area
 area-long x = length-replicate areaWords x
 
 pub area-first : (x : ℕ) → getD (area x) 0 0 ≡ x
-unfolding area
+unfolding area wordsFor
 area-first x = getD-replicate areaWords 0 x 0 (lit< tt)
 
 area-words : (x : ℕ) → x < 2 ^ 64 → MachineWords (area x)

@@ -10,7 +10,7 @@ use Rattle.forms.specs.Form.{Form}
 use Rattle.meaning.specs.Rule.{Node, Entry, parameters}
 use Rattle.meaning.specs.Words.{Known, first, feed, close, valueIfLast, word}
 use Rattle.meaning.specs.Words as words
-use Rattle.rewriting.specs.Known.{wordsFor, areaOf, knownIn}
+use Rattle.rewriting.specs.Known.{areaOf, knownIn}
 use Rattle.watcher.specs.declared.state.Watcher.{Watcher}
 use Rattle.watcher.specs.declared.state.Phase.{Phase}
 use Rattle.watcher.specs.declared.state.Phase.the-variants as phase
@@ -83,7 +83,7 @@ refused-close w ws r e = ap (λ f. closeWith f w ws) e
 -- the area that is laid out has its words
 pub area-right : (m : ℕ) (past : List (Form m)) (remainder : Form m)
     → wrongArea (areaOf mostParameters m past remainder) ≡ false
-unfolding wrongArea wordsFor
+unfolding wrongArea
 area-right m past remainder =
     ap not (eq-eqb (length (areaOf mostParameters m past remainder)) areaWords
     (length-areaOf mostParameters m past remainder))

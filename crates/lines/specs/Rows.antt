@@ -1,7 +1,7 @@
 -- The line of a row of the work area, for the test program: its name, and the numbers of its terms.
 use mathlib.Core.Bool.{Bool, true, false, cond}
 use mathlib.Core.List.{List, [], _∷_, _++_}
-use Prim.Native.Nat.{ℕ, zero, suc}
+use Prim.Native.Nat.{ℕ, zero, suc, _^_}
 use lib.Dec.{eqb, ltb}
 use Rattle.ground.specs.Fold.{some}
 use Rattle.ground.specs.Bits.{bitAt}
@@ -28,9 +28,9 @@ unfoldable pub noneText : Bool → List ℕ
 noneText true = []
 noneText false = 45 ∷ []
 
--- bits of a row
+-- bits of a row, one for each term
 abbrev pub rowBits : ℕ
-rowBits = 4096
+rowBits = 2 ^ mostParameters
 
 unfoldable pub rowText : List ℕ → List ℕ
 rowText row = termsText row rowBits ++ noneText (some rowBits (bitAt row))

@@ -12,8 +12,8 @@ ghost use Rattle.lines.specs.Rows.{termText, noneText, rowBits, rowText,
 ghost use Rattle.lines.specs.Rows.{rowsOf, rowOf};
 ghost use Rattle.lines.specs.Clauses.{RowLineClause};
 
-// Bits of a row.
-const ROW_BITS: usize = 4096;
+// Bits of a row, one for each term.
+const ROW_BITS: usize = 1 << Watcher::PARAMETERS;
 
 // Bytes that no line of a row has more of: a term has a comma and four digits at most.
 pub const ROW_BYTES: usize = 5 * ROW_BITS + 8;

@@ -14,35 +14,35 @@ use Rattle.watcher.specs.declared.state.Verdict.the-variants.{Kept, Broken}
 use Rattle.watcher.specs.Limits.{listBytes}
 use Rattle.watcher.specs.Calls.{zeroState}
 
--- the bytes of a state
-abbrev pub stateBytes : ℕ
-stateBytes = 280
-
 -- the places of the rule and of the signal list; of their numbers of records, in 8 bytes each
 abbrev pub rulePlace : ℕ
 rulePlace = 0
 
 abbrev pub listPlace : ℕ
-listPlace = 128
+listPlace = rulePlace + listBytes
 
 abbrev pub recordsPlace : ℕ
-recordsPlace = 256
+recordsPlace = listPlace + listBytes
 
 abbrev pub signalsPlace : ℕ
-signalsPlace = 264
+signalsPlace = recordsPlace + 8
 
 -- the place of the last record's time, in 4 bytes, of its signals, in 2, of the phase and of the zero behind it
 abbrev pub timePlace : ℕ
-timePlace = 272
+timePlace = signalsPlace + 8
 
 abbrev pub wordPlace : ℕ
-wordPlace = 276
+wordPlace = timePlace + 4
 
 abbrev pub phasePlace : ℕ
-phasePlace = 278
+phasePlace = wordPlace + 2
 
 abbrev pub zeroPlace : ℕ
-zeroPlace = 279
+zeroPlace = phasePlace + 1
+
+-- the bytes of a state
+abbrev pub stateBytes : ℕ
+stateBytes = zeroPlace + 1
 
 -- byte k of a number
 unfoldable pub digit : ℕ → ℕ → ℕ

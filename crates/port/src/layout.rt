@@ -16,25 +16,25 @@ ghost use Rattle.port.specs.Layout.{stateBytes, recordsPlace, digit, pha
 ghost use Rattle.port.specs.Layout.{numberByte, written, phaseWith, listAt, stateIn};
 ghost use Rattle.port.specs.Steps.{listPut};
 
-// The bytes of a state.
-pub(crate) const STATE_BYTES: usize = 280;
-
 // The places of the lists, of their numbers of records, of the last record's time and signals, and of the phase.
 const RULE: usize = 0;
 
-const LIST: usize = 128;
+const LIST: usize = RULE + Watcher::LIST_BYTES;
 
-const RECORDS: usize = 256;
+const RECORDS: usize = LIST + Watcher::LIST_BYTES;
 
-const SIGNALS: usize = 264;
+const SIGNALS: usize = RECORDS + 8;
 
-const TIME: usize = 272;
+const TIME: usize = SIGNALS + 8;
 
-const WORD: usize = 276;
+const WORD: usize = TIME + 4;
 
-const PHASE: usize = 278;
+const PHASE: usize = WORD + 2;
 
-const ZERO: usize = 279;
+const ZERO: usize = PHASE + 1;
+
+// The bytes of a state.
+pub(crate) const STATE_BYTES: usize = ZERO + 1;
 
 // A fresh state of zeros.
 fn zero_state() -> Watcher

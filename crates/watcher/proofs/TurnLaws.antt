@@ -17,11 +17,11 @@ use Rattle.forms.specs.Area.{rowAt}
 use Rattle.forms.proofs.Areas.{length-rowAt}
 use Rattle.meaning.specs.Horizon.{Horizon, never, horizon}
 use Rattle.rewriting.specs.Decode.{ruleIn}
-use Rattle.rewriting.specs.Known.{wordsFor, Tidy}
+use Rattle.rewriting.specs.Known.{Tidy}
 use Rattle.rewriting.specs.Plans.{Sound}
 use Rattle.watcher.specs.declared.state.Watcher.{Watcher}
 use Rattle.watcher.specs.declared.state.Found.the-variants.{Fine}
-use Rattle.watcher.specs.Limits.{mostRecords, mostParameters, listBytes, areaWords}
+use Rattle.watcher.specs.Limits.{mostRecords, mostParameters, listBytes}
 use Rattle.watcher.specs.Rules.{recordsOf}
 use Rattle.watcher.specs.Lists.{listsRefusal}
 use Rattle.watcher.specs.Numbers.{stageOf}
@@ -32,11 +32,6 @@ use Rattle.watcher.specs.Turns.{planOf, planIn, Passed}
 use Rattle.watcher.proofs.Decoded.{neither, fine-tests, length-fine, record-fine, accepted-laid, accepted-few}
 use Rattle.watcher.proofs.HeldLaws.{held-most, held-some, held-few}
 use Rattle.watcher.proofs.Breaking.{sound}
-
--- the area's words are those of twelve places
-pub words-twelve : areaWords ≡ wordsFor mostParameters
-unfolding wordsFor
-words-twelve = refl
 
 -- a row of zeros
 pub zero-row-is : (row : List ℕ) → length row ≡ 64 → zeroRow row ≡ true → row ≡ replicate 64 0
@@ -77,7 +72,7 @@ module _ (w : Watcher) (ws : List ℕ) (passed : Passed w ws) where
   unfolding notZeroFrom
   passed-tidy held =
       record {
-        long = passed .long ∙ words-twelve;
+        long = passed .long;
         small = passed .small;
         past = λ j h. fits-at j (omega (arith, passed-few held));
         unused =

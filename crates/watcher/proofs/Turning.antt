@@ -42,7 +42,6 @@ use Rattle.watcher.specs.Calls.{freshState, zeroState, runningState, clo
 use Rattle.watcher.specs.Calls.{startRefusal, startWith, startOf, feedRefusal, feedWith, feedOf}
 use Rattle.watcher.specs.Calls.{closeRefusal, closeWith, closeOf}
 use Rattle.watcher.specs.Turns.{planOn, planOf, planIn, rewrittenOf, lastIn, endedState, begunOf}
-use Rattle.watcher.proofs.TurnLaws.{words-twelve}
 
 -- the word of a form by which constant it is
 module _ (m : ℕ) (f : Form m) (t : Truth) (is : t ≡ whichConstant m f) where
@@ -76,7 +75,7 @@ plan-records rule plan n e h = subst (λ k. k ≤ mostRecords) (sym (ap (λ p. p
 
 pub plan-room : (rule ws : List ℕ) (plan : Plan) (n : ℕ) → plan ≡ planOn rule n → length ws ≡ areaWords
     → length ws ≡ wordsFor (plan .places)
-plan-room rule ws plan n e h = h ∙ words-twelve ∙ ap wordsFor (sym (ap (λ p. p .places) e))
+plan-room rule ws plan n e h = h ∙ ap wordsFor (sym (ap (λ p. p .places) e))
 
 pub tidy-as : (w : Watcher) (ws : List ℕ) (plan : Plan) → plan ≡ planOf w
     → Tidy mostParameters (parametersOf w) ws → Tidy (plan .places) (plan .m) ws

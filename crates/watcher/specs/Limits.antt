@@ -1,6 +1,7 @@
 -- The limits of document 01, each named once; `Watcher::limits` ties the constants of the state's type to them.
-use Prim.Native.Nat.{ℕ}
+use Prim.Native.Nat.{ℕ, _*_}
 use Rattle.rewriting.specs.Decode.{recordBytes}
+use Rattle.rewriting.specs.Known.{wordsFor}
 use Rattle.watcher.specs.declared.state.Limits.{Limits}
 
 -- records of a rule, signals of a list, parameters of a rule
@@ -15,14 +16,14 @@ mostParameters = 12
 
 -- bytes of a list of rule or signal records, of a log record
 abbrev pub listBytes : ℕ
-listBytes = 128
+listBytes = recordBytes * mostRecords
 
 abbrev pub logBytes : ℕ
 logBytes = 16
 
--- words of the work area
+-- words of the work area: past rows and remainder, and as much scratch
 abbrev pub areaWords : ℕ
-areaWords = 1664
+areaWords = wordsFor mostParameters
 
 abbrev pub limitsOf : Limits
 limitsOf =

@@ -113,13 +113,17 @@ impl Watcher {
 
     pub const RECORD_BYTES: usize = 8;
 
-    pub const LIST_BYTES: usize = 128;
+    pub const LIST_BYTES: usize = Self::RECORDS * Self::RECORD_BYTES;
 
     pub const LOG_BYTES: usize = 16;
 
-    pub const WORDS: usize = 1664;
+    const ROW_WORDS: usize = 64;
 
-    pub const TABLE_WORDS: usize = 1024;
+    // The past rows and the remainder, and as many rows of scratch.
+    pub const WORDS: usize = Self::ROW_WORDS * (2 * (Self::PARAMETERS + 1));
+
+    // A row for each record's form.
+    pub const TABLE_WORDS: usize = Self::ROW_WORDS * Self::RECORDS;
 
     // The constants above are the limits that the definitions name.
     pub fn limits() -> Limits

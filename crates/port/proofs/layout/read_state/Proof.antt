@@ -5,6 +5,7 @@ use Rattle.ground.specs.Bytes.{little}
 use native.Mathlib.Omega.{arith}
 use borrow.Author.Needs.{needs}
 use Rattle.ground.proofs.ByteLaws.{little-lt}
+use Rattle.port.specs.Layout.{wordPlace}
 use Rattle.port.proofs.Layouts.{read-none, read-some}
 use Rattle.port.proofs.layout.read_state.Statement.{statement}
 use Rattle.port.proofs.layout.read_state.Tie as tie
@@ -34,8 +35,8 @@ two-requires c κs = search needs
 cast-phase-with : tie.Need-cast-phase-with
 cast-phase-with c =
     let start = c .before .before .before .before .before .before .before .args in
-    let h : little (start .bytes .now) 276 2 < 65536 =
-    little-lt (start .bytes .now) 276 2
+    let h : little (start .bytes .now) wordPlace 2 < 65536 =
+    little-lt (start .bytes .now) wordPlace 2
     (λ i. c .before .before .before .before .before .before .shared-slice-known .given i .fits) in
     omega (arith, h, c .two .ensures)
 

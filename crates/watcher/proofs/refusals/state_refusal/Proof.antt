@@ -2,11 +2,13 @@
 -- Assumes nothing.
 use borrow.Author.Needs.{needs}
 use mathlib.Core.Path.{sym, _∙_}
+use Rattle.rewriting.specs.Known.{wordsFor}
 use Rattle.watcher.proofs.Testing.{state-area, state-broken, state-closed, state-fine}
 use Rattle.watcher.proofs.refusals.state_refusal.Statement.{statement}
 use Rattle.watcher.proofs.refusals.state_refusal.Tie as tie
 
 returns : tie.Need-returns
+unfolding wordsFor
 returns c = state-area _ _ (c .if1 .taken)
 
 broken-state-requires : tie.Need-broken-state-requires
@@ -16,11 +18,13 @@ is-closed-requires : tie.Need-is-closed-requires
 is-closed-requires c κs = search needs
 
 returns-2 : tie.Need-returns-2
+unfolding wordsFor
 returns-2 c =
     let c₃ = c .before .before .before in
     state-broken _ _ (c₃ .if1 .left) (sym (c .before .before .broken-state .ensures) ∙ c .if2 .taken)
 
 returns-3 : tie.Need-returns-3
+unfolding wordsFor
 returns-3 c =
     let c₃ = c .before .before .before in
     let c₄ = c₃ .before in
@@ -28,6 +32,7 @@ returns-3 c =
     (sym (c .before .before .is-closed .ensures) ∙ c .if3 .taken)
 
 returns-4 : tie.Need-returns-4
+unfolding wordsFor
 returns-4 c =
     let c₃ = c .before .before .before in
     let c₄ = c₃ .before in
