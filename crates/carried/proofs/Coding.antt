@@ -17,12 +17,11 @@ use Rattle.watcher.specs.declared.state.End.the-variants as end
 use Rattle.watcher.specs.Numbers.{refusalNumber}
 use Rattle.demands.specs.Tables.{foundIn, foundAt, Carries}
 use Rattle.demands.specs.Demands.{Says}
-use Rattle.port.specs.Codes.{wordCode, answerCode, endCode}
+use Rattle.port.specs.Codes.{wordCode, answerCode, asAnswer, endCode}
 use Rattle.port.proofs.Numbers.{number-low}
 
 -- words with the same code are the same
 coded : (w : Word) → getD (Kept ∷ Broken ∷ Pending ∷ []) (wordCode w - 101) Pending ≡ w
-unfolding wordCode
 coded Kept = refl
 coded Broken = refl
 coded Pending = refl
@@ -33,7 +32,6 @@ word-one v w e =
 
 -- a word's code is no refusal's number
 word-large : (w : Word) → 100 < wordCode w
-unfolding wordCode
 word-large Kept = omega arith
 word-large Broken = omega arith
 word-large Pending = omega arith
@@ -57,7 +55,7 @@ carries-code (answer.Accepted report) n c = absurd c
 carries-code (answer.Refused r) n c = c
 
 pub carries-end : (a : End) (n : ℕ) → Carries (foundAt a) n → endCode a ≡ n
-unfolding endCode foundAt Carries
+unfolding endCode asAnswer answerCode foundAt Carries
 carries-end (end.Closed v) n c = absurd c
 carries-end (end.Refused r) n c = c
 

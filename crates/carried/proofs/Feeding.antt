@@ -1,17 +1,18 @@
 -- Pieces fed one after another are calls, and their codes are those of the answers.
 -- Assumes nothing.
-use mathlib.Core.Path.{_≡_, refl, sym, ap, _∙_, subst}
+use mathlib.Core.Path.{_≡_, refl, ap, _∙_}
 use mathlib.Core.Bool.{cond}
 use mathlib.Core.List.{List, [], _∷_, _++_, map, map-append}
 use Prim.Native.Nat.{ℕ, zero, suc, _+_, _-_, _<_}
 use native.Mathlib.Numerals.{add-one}
 use native.Mathlib.Omega.{arith}
 use lib.ListN.{length, getD, take, drop}
-use lib.Seq.{getD-drop, take-suc}
+use lib.Seq.{take-suc}
 use Rattle.meaning.specs.Rule.{Entry}
 use Rattle.watcher.specs.Limits.{logBytes}
 use Rattle.watcher.specs.Machine.{MachineBytes}
 use Rattle.watcher.specs.Runs.{Held, fedOne, answerTo, fedAll, piecesIn, pieces}
+use Rattle.watcher.proofs.Machines.{bytes-take, bytes-drop}
 use Rattle.demands.specs.Watching.{defined, feeding, told, handed, handedOn, MachineCall, MachineCalls}
 use Rattle.demands.specs.Logs.{accepts, logWith, going, further, furtherBy, logIn, courseOf, logOf}
 use Rattle.port.specs.Codes.{answerCode}
@@ -74,23 +75,13 @@ calls-later ps k j h l =
     ap (map feeding) (take-more ps k j h l)
     ∙ map-append feeding (take k ps) (getD ps k [] ∷ take (j - suc k) (drop (suc k) ps))
 
--- bytes: a part of them, and what is behind it
-take-bytes : (n : ℕ) (log : List ℕ) → MachineBytes log → MachineBytes (take n log)
-take-bytes zero log m i = omega arith
-take-bytes (suc n) [] m i = omega arith
-take-bytes (suc n) (b ∷ log) m zero = m zero
-take-bytes (suc n) (b ∷ log) m (suc i) = take-bytes n log (λ j. m (suc j)) i
-
-drop-bytes : (n : ℕ) (log : List ℕ) → MachineBytes log → MachineBytes (drop n log)
-drop-bytes n log m i = subst (λ x. x < 256) (sym (getD-drop n log i 0)) (m (n + i))
-
 -- the pieces of bytes can be fed
 machine-in : (n : ℕ) (log : List ℕ) → MachineBytes log → MachineCalls (map feeding (piecesIn n log))
 unfolding piecesIn MachineCalls MachineCall
 machine-in zero log m = tt
 machine-in (suc n) [] m = tt
 machine-in (suc n) (b ∷ log) m =
-    (take-bytes logBytes (b ∷ log) m, machine-in n (drop logBytes (b ∷ log)) (drop-bytes logBytes (b ∷ log) m))
+    (bytes-take logBytes (b ∷ log) m, machine-in n (drop logBytes (b ∷ log)) (bytes-drop logBytes (b ∷ log) m))
 
 pub machine-pieces : (log : List ℕ) → MachineBytes log → MachineCalls (map feeding (pieces log))
 unfolding pieces

@@ -27,7 +27,7 @@ use Rattle.demands.proofs.Following.{defined-meets}
 use Rattle.demands.proofs.Demanded.{demanded}
 use Rattle.demands.proofs.OwnWork.{own-work}
 use Rattle.demands.proofs.Logs.{further-parts}
-use Rattle.port.specs.Codes.{codesLength, wordCode, answerCode, endCode}
+use Rattle.port.specs.Codes.{codesLength, wordCode, verdictCode, answerCode, asAnswer, endCode}
 use Rattle.port.specs.Whole.{codesFor, fedFrom, closedAfter, runFrom, runOf}
 use Rattle.carried.specs.Exporting.{Exports, Meets}
 use Rattle.carried.specs.Runs.{pieceAt, logTo, RunRefuses, RunReports, RunDecides, RunIsDemanded}
@@ -152,7 +152,7 @@ module _ (rule signals log ws codes : List ℕ) (br : MachineBytes rule) (bs : M
         ∙ ap (λ x. heldIn rule signals (further signals x closing)) c)
 
     run-reports : RunReports rule signals log outcome
-    unfolding further heldIn endCode
+    unfolding further heldIn endCode asAnswer answerCode verdictCode
     run-reports =
         record {
           long = length-codes first (pieces log);
@@ -223,7 +223,7 @@ module _ (rule signals log ws codes : List ℕ) (br : MachineBytes rule) (bs : M
         ∙ later-calls k (length (pieces log)) h h
 
     run-decides : RunDecides rule signals log outcome
-    unfolding endCode
+    unfolding endCode asAnswer answerCode verdictCode
     run-decides =
         record {
           holds =

@@ -12,8 +12,8 @@ use Rattle.watcher.specs.Calls.{startOf, feedRefusal, feedWith, feedOf, closeRe
 use Rattle.watcher.specs.Machine.{MachineBytes, MachineWords, MachineState}
 use Rattle.watcher.proofs.Machines.{machine-start, machine-feed, machine-close}
 use Rattle.port.specs.Layout.{stateBytes, byteAt, written}
-use Rattle.port.specs.Codes.{foundCode, answerCode, endCode}
-use Rattle.port.specs.Exports.{startedBytes, startBytes, keptUnless, fedBytes, feedBytes, openUnless, endedBytes}
+use Rattle.port.specs.Codes.{foundCode, answerCode, asAnswer, endCode}
+use Rattle.port.specs.Exports.{startedBytes, startBytes, keptUnless, answeredBytes, fedBytes, feedBytes, endedBytes}
 use Rattle.port.specs.Exports.{closeBytes}
 use Rattle.port.proofs.ReadBack.{read-back}
 use Rattle.port.proofs.Machines.{machine-in, written-bytes}
@@ -56,14 +56,14 @@ start-step rule signals bytes ws r s b long =
 fed-written : (f : Found) (bytes : List ℕ) (w : Watcher) (piece ws : List ℕ) → Holds bytes w
     → MachineState (feedWith f w piece ws .0 .next)
     → Holds (fedBytes (feedWith f w piece ws) bytes .1) (feedWith f w piece ws .0 .next)
-unfolding feedWith fedBytes keptUnless
+unfolding feedWith fedBytes answeredBytes keptUnless
 fed-written Fine bytes w piece ws h m = holds-written _ m
 fed-written (Refused r) bytes w piece ws h m = h
 
 closed-written : (f : Found) (bytes : List ℕ) (w : Watcher) (ws : List ℕ) → Holds bytes w
     → MachineState (closeWith f w ws .0 .next)
     → Holds (endedBytes (closeWith f w ws) bytes .1) (closeWith f w ws .0 .next)
-unfolding closeWith endedBytes openUnless
+unfolding closeWith endedBytes asAnswer answeredBytes keptUnless
 closed-written Fine bytes w ws h m = holds-written _ m
 closed-written (Refused r) bytes w ws h m = h
 
@@ -71,7 +71,7 @@ module _ (bytes : List ℕ) (w : Watcher) (h : Holds bytes w) (ws : List ℕ) (b
   pub feed-step : (piece : List ℕ) → MachineBytes piece
       → Carries (feedBytes bytes piece ws) (answerCode (feedOf w piece ws .0 .answer)) (feedOf w piece ws .0 .next)
       (feedOf w piece ws .1)
-  unfolding feedBytes fedBytes feedOf
+  unfolding feedBytes fedBytes answeredBytes feedOf
   feed-step piece p =
       subst
       (λ o. Carries o (answerCode (feedOf w piece ws .0 .answer)) (feedOf w piece ws .0 .next) (feedOf w piece ws .1))
@@ -86,7 +86,7 @@ module _ (bytes : List ℕ) (w : Watcher) (h : Holds bytes w) (ws : List ℕ) (b
 
   pub close-step :
       Carries (closeBytes bytes ws) (endCode (closeOf w ws .0 .answer)) (closeOf w ws .0 .next) (closeOf w ws .1)
-  unfolding closeBytes endedBytes closeOf
+  unfolding closeBytes endedBytes answeredBytes endCode closeOf
   close-step =
       subst (λ o. Carries o (endCode (closeOf w ws .0 .answer)) (closeOf w ws .0 .next) (closeOf w ws .1))
       (ap (λ v. endedBytes (closeOf v ws) bytes) (sym (h .state)) ∙ right-one bytes _ _ (h .long))

@@ -12,18 +12,17 @@ use Rattle.watcher.specs.declared.state.Wait.{Wait}
 use Rattle.watcher.specs.declared.state.Found.{Found}
 use Rattle.watcher.specs.declared.state.Refusal.{Refusal}
 use Rattle.watcher.specs.declared.state.Report.{Report}
-use Rattle.watcher.specs.declared.state.Verdict.{Verdict}
-use Rattle.watcher.specs.declared.state.Answer.the-variants as answer
-use Rattle.watcher.specs.declared.state.End.the-variants as end
+use Rattle.watcher.specs.declared.state.Answer.{Answer}
+use Rattle.watcher.specs.declared.state.Answer.the-variants.{Accepted, Refused}
 use Rattle.watcher.specs.declared.state.Started.{Started}
 use Rattle.watcher.specs.declared.state.Fed.{Fed}
 use Rattle.watcher.specs.declared.state.Ended.{Ended}
-use Rattle.watcher.specs.Numbers.{refusalNumber, horizonFor}
+use Rattle.watcher.specs.Numbers.{horizonFor}
 use Rattle.watcher.specs.Calls.{startOf, feedOf, feedRefusal, closeOf, waitOf}
-use Rattle.port.specs.Codes.{stateLength, wordCode, verdictCode, foundCode, answerCode, endCode, horizonCode}
+use Rattle.port.specs.Codes.{stateLength, foundCode, answerCode, asAnswer, horizonCode}
 use Rattle.port.specs.Layout.{stateBytes, written, stateIn}
-use Rattle.port.specs.Exports.{wrongState, startedBytes, startBytes, refusalBytes, keptUnless, fedBytes}
-use Rattle.port.specs.Exports.{feedBytes, openUnless, endedBytes, closeBytes, horizonBytes}
+use Rattle.port.specs.Exports.{wrongState, startedBytes, startBytes, refusalBytes, keptUnless, answeredBytes}
+use Rattle.port.specs.Exports.{fedBytes, feedBytes, endedBytes, closeBytes, horizonBytes}
 
 -- bytes of another length are no state
 long-not : (bytes : List ℕ) → (length bytes ≡ stateBytes → ⊥) → wrongState bytes ≡ true
@@ -70,61 +69,45 @@ pub feed-wrong : (bytes piece ws : List ℕ) → (length bytes ≡ stateBytes �
 unfolding feedBytes
 feed-wrong bytes piece ws h = wrong-one bytes _ _ h
 
-feed-right : (bytes piece ws ws′ after : List ℕ) (w : Watcher) (s : Fed) (n : ℕ) → length bytes ≡ stateBytes
-    → w ≡ stateIn bytes → (s, ws′) ≡ feedOf w piece ws → n ≡ answerCode (s .answer)
-    → after ≡ keptUnless (s .answer) (written (s .next)) bytes → (n, after, ws′) ≡ feedBytes bytes piece ws
-unfolding feedBytes fedBytes
-feed-right bytes piece ws ws′ after w s n h e f m a =
-    let made : (n, after, ws′) ≡ fedBytes (s, ws′) bytes = cc in
-    let fed : (s, ws′) ≡ feedOf (stateIn bytes) piece ws = f ∙ ap (λ v. feedOf v piece ws) e in
-    made ∙ ap (λ o. fedBytes o bytes) fed ∙ right-one bytes _ _ h
+-- an answer leaves the next state in the bytes, and a refusal what was there
+pub kept-next : (a : Answer) (report : Report) (next bytes : List ℕ) → a ≡ Accepted report
+    → next ≡ keptUnless a next bytes
+unfolding keptUnless
+kept-next a report next bytes e = ap (λ x. keptUnless x next bytes) (sym e)
 
-pub feed-accepted : (bytes piece ws ws′ after : List ℕ) (w : Watcher) (s : Fed) (report : Report) (n : ℕ)
-    → length bytes ≡ stateBytes → w ≡ stateIn bytes → (s, ws′) ≡ feedOf w piece ws
-    → s .answer ≡ answer.Accepted report → after ≡ written (s .next) → n ≡ wordCode (report .word)
+pub kept-here : (a : Answer) (r : Refusal) (next bytes : List ℕ) → a ≡ Refused r → bytes ≡ keptUnless a next bytes
+unfolding keptUnless
+kept-here a r next bytes e = ap (λ x. keptUnless x next bytes) (sym e)
+
+answered : (a : Answer) (next : Watcher) (ws bytes after : List ℕ) (n : ℕ)
+    → (n ≡ answerCode a) × (after ≡ keptUnless a (written next) bytes)
+    → (n, after, ws) ≡ answeredBytes a next ws bytes
+unfolding answeredBytes
+answered a next ws bytes after n e = cc
+
+pub feed-right : (bytes piece ws ws′ after : List ℕ) (w : Watcher) (s : Fed) (n : ℕ) → length bytes ≡ stateBytes
+    → w ≡ stateIn bytes → (s, ws′) ≡ feedOf w piece ws
+    → (n ≡ answerCode (s .answer)) × (after ≡ keptUnless (s .answer) (written (s .next)) bytes)
     → (n, after, ws′) ≡ feedBytes bytes piece ws
-unfolding keptUnless answerCode
-feed-accepted bytes piece ws ws′ after w s report n h e f g a m =
-    feed-right bytes piece ws ws′ after w s n h e f (m ∙ ap answerCode (sym g))
-    (a ∙ ap (λ x. keptUnless x (written (s .next)) bytes) (sym g))
-
-pub feed-refused : (bytes piece ws ws′ : List ℕ) (w : Watcher) (s : Fed) (r : Refusal) (n : ℕ)
-    → length bytes ≡ stateBytes → w ≡ stateIn bytes → (s, ws′) ≡ feedOf w piece ws
-    → s .answer ≡ answer.Refused r → n ≡ refusalNumber r → (n, bytes, ws′) ≡ feedBytes bytes piece ws
-unfolding keptUnless answerCode
-feed-refused bytes piece ws ws′ w s r n h e f g m =
-    feed-right bytes piece ws ws′ bytes w s n h e f (m ∙ ap answerCode (sym g))
-    (ap (λ x. keptUnless x (written (s .next)) bytes) (sym g))
+unfolding feedBytes fedBytes
+feed-right bytes piece ws ws′ after w s n h e f m =
+    let fed : (s, ws′) ≡ feedOf (stateIn bytes) piece ws = f ∙ ap (λ v. feedOf v piece ws) e in
+    answered (s .answer) (s .next) ws′ bytes after n m ∙ ap (λ o. fedBytes o bytes) fed ∙ right-one bytes _ _ h
 
 pub close-wrong : (bytes ws : List ℕ) → (length bytes ≡ stateBytes → ⊥)
     → (stateLength, bytes, ws) ≡ closeBytes bytes ws
 unfolding closeBytes
 close-wrong bytes ws h = wrong-one bytes _ _ h
 
-close-right : (bytes ws ws′ after : List ℕ) (w : Watcher) (s : Ended) (n : ℕ) → length bytes ≡ stateBytes
-    → w ≡ stateIn bytes → (s, ws′) ≡ closeOf w ws → n ≡ endCode (s .answer)
-    → after ≡ openUnless (s .answer) (written (s .next)) bytes → (n, after, ws′) ≡ closeBytes bytes ws
+pub close-right : (bytes ws ws′ after : List ℕ) (w : Watcher) (s : Ended) (a : Answer) (n : ℕ)
+    → length bytes ≡ stateBytes → w ≡ stateIn bytes → (s, ws′) ≡ closeOf w ws → a ≡ asAnswer (s .answer)
+    → (n ≡ answerCode a) × (after ≡ keptUnless a (written (s .next)) bytes)
+    → (n, after, ws′) ≡ closeBytes bytes ws
 unfolding closeBytes endedBytes
-close-right bytes ws ws′ after w s n h e f m a =
-    let made : (n, after, ws′) ≡ endedBytes (s, ws′) bytes = cc in
+close-right bytes ws ws′ after w s a n h e f g m =
     let ended : (s, ws′) ≡ closeOf (stateIn bytes) ws = f ∙ ap (λ v. closeOf v ws) e in
-    made ∙ ap (λ o. endedBytes o bytes) ended ∙ right-one bytes _ _ h
-
-pub close-closed : (bytes ws ws′ after : List ℕ) (w : Watcher) (s : Ended) (v : Verdict) (n : ℕ)
-    → length bytes ≡ stateBytes → w ≡ stateIn bytes → (s, ws′) ≡ closeOf w ws → s .answer ≡ end.Closed v
-    → after ≡ written (s .next) → n ≡ verdictCode v → (n, after, ws′) ≡ closeBytes bytes ws
-unfolding openUnless endCode
-close-closed bytes ws ws′ after w s v n h e f g a m =
-    close-right bytes ws ws′ after w s n h e f (m ∙ ap endCode (sym g))
-    (a ∙ ap (λ x. openUnless x (written (s .next)) bytes) (sym g))
-
-pub close-refused : (bytes ws ws′ : List ℕ) (w : Watcher) (s : Ended) (r : Refusal) (n : ℕ)
-    → length bytes ≡ stateBytes → w ≡ stateIn bytes → (s, ws′) ≡ closeOf w ws → s .answer ≡ end.Refused r
-    → n ≡ refusalNumber r → (n, bytes, ws′) ≡ closeBytes bytes ws
-unfolding openUnless endCode
-close-refused bytes ws ws′ w s r n h e f g m =
-    close-right bytes ws ws′ bytes w s n h e f (m ∙ ap endCode (sym g))
-    (ap (λ x. openUnless x (written (s .next)) bytes) (sym g))
+    answered a (s .next) ws′ bytes after n m ∙ ap (λ x. answeredBytes x (s .next) ws′ bytes) g
+    ∙ ap (λ o. endedBytes o bytes) ended ∙ right-one bytes _ _ h
 
 pub horizon-wrong : (bytes : List ℕ) → (length bytes ≡ stateBytes → ⊥) → horizonCode never ≡ horizonBytes bytes
 unfolding horizonBytes

@@ -13,6 +13,7 @@ use borrow.Author.Tests.{lt-ltb, le-ltb, le-leb, lt-leb}
 use Rattle.ground.specs.Bytes.{little}
 use Rattle.ground.proofs.Folds.{less-or-not}
 use Rattle.ground.proofs.Tabs.{length-tab, getD-tab}
+use Rattle.rewriting.specs.declared.step.Moment.{Moment}
 use Rattle.watcher.specs.declared.state.Watcher.{Watcher}
 use Rattle.watcher.specs.declared.state.Phase.{Phase}
 use Rattle.watcher.specs.declared.state.Phase.the-variants.{Fresh, Running, Closed}
@@ -20,42 +21,42 @@ use Rattle.watcher.specs.declared.state.Verdict.the-variants.{Kept, Broken}
 use Rattle.watcher.specs.Limits.{listBytes}
 use Rattle.watcher.specs.Calls.{zeroState}
 use Rattle.port.specs.Layout.{stateBytes, rulePlace, listPlace, recordsPlace, signalsPlace, timePlace, wordPlace}
-use Rattle.port.specs.Layout.{phasePlace, zeroPlace, digit, phaseNumber, timeIn, signalsIn, numberByte, byteAt}
+use Rattle.port.specs.Layout.{phasePlace, zeroPlace, digit, phaseNumber, lastIn, numberByte, byteAt}
 use Rattle.port.specs.Layout.{phaseWith, listAt, stateIn}
 use Rattle.port.specs.Steps.{listPut}
 
-module _ (records signals time word phase i : ℕ) where
+module _ (records signals : ℕ) (last : Moment) (phase i : ℕ) where
   pub number-records : i < signalsPlace
-      → digit records (i - recordsPlace) ≡ numberByte records signals time word phase i
+      → digit records (i - recordsPlace) ≡ numberByte records signals last phase i
   unfolding numberByte
   number-records h = rw (lt-ltb i signalsPlace h) refl
 
   pub number-signals : signalsPlace ≤ i → i < timePlace
-      → digit signals (i - signalsPlace) ≡ numberByte records signals time word phase i
+      → digit signals (i - signalsPlace) ≡ numberByte records signals last phase i
   unfolding numberByte
   number-signals a h = rw (le-ltb i signalsPlace a) (rw (lt-ltb i timePlace h) refl)
 
   pub number-time : timePlace ≤ i → i < wordPlace
-      → digit time (i - timePlace) ≡ numberByte records signals time word phase i
+      → digit (last .time) (i - timePlace) ≡ numberByte records signals last phase i
   unfolding numberByte
   number-time a h =
       rw (le-ltb i signalsPlace (omega arith)) (rw (le-ltb i timePlace a) (rw (lt-ltb i wordPlace h) refl))
 
   pub number-word : wordPlace ≤ i → i < phasePlace
-      → digit word (i - wordPlace) ≡ numberByte records signals time word phase i
+      → digit (last .signals) (i - wordPlace) ≡ numberByte records signals last phase i
   unfolding numberByte
   number-word a h =
       rw (le-ltb i signalsPlace (omega arith))
       (rw (le-ltb i timePlace (omega arith)) (rw (le-ltb i wordPlace a) (rw (lt-ltb i phasePlace h) refl)))
 
-  pub number-phase : phasePlace ≤ i → i < zeroPlace → phase ≡ numberByte records signals time word phase i
+  pub number-phase : phasePlace ≤ i → i < zeroPlace → phase ≡ numberByte records signals last phase i
   unfolding numberByte
   number-phase a h =
       rw (le-ltb i signalsPlace (omega arith))
       (rw (le-ltb i timePlace (omega arith))
       (rw (le-ltb i wordPlace (omega arith)) (rw (le-ltb i phasePlace a) (rw (lt-ltb i zeroPlace h) refl))))
 
-  pub number-zero : zeroPlace ≤ i → 0 ≡ numberByte records signals time word phase i
+  pub number-zero : zeroPlace ≤ i → 0 ≡ numberByte records signals last phase i
   unfolding numberByte
   number-zero a =
       rw (le-ltb i signalsPlace (omega arith))
@@ -74,7 +75,7 @@ unfolding byteAt
 byte-list w i a h = rw (le-ltb i listPlace a) (rw (lt-ltb i recordsPlace h) refl)
 
 pub byte-number : (w : Watcher) (i : ℕ) → recordsPlace ≤ i
-    → numberByte (w .records) (w .signals) (timeIn (w .phase)) (signalsIn (w .phase)) (phaseNumber (w .phase)) i
+    → numberByte (w .records) (w .signals) (lastIn (w .phase)) (phaseNumber (w .phase)) i
     ≡ byteAt w i
 unfolding byteAt
 byte-number w i a = rw (le-ltb i listPlace (omega arith)) (rw (le-ltb i recordsPlace a) refl)
@@ -188,11 +189,8 @@ lists-put w b₀ b₁ b₂ l e f j h =
     (less-or-not j listPlace)
 
 -- a byte of the numbers, made from the phase's parts
-pub byte-made : (w : Watcher) (i time word number x : ℕ) → recordsPlace ≤ i → time ≡ timeIn (w .phase)
-    → word ≡ signalsIn (w .phase) → number ≡ phaseNumber (w .phase)
-    → x ≡ numberByte (w .records) (w .signals) time word number i → x ≡ byteAt w i
-byte-made w i time word number x a t s n e =
-    let made : x
-    ≡ numberByte (w .records) (w .signals) (timeIn (w .phase)) (signalsIn (w .phase)) (phaseNumber (w .phase)) i =
-    cc in
+pub byte-made : (w : Watcher) (i : ℕ) (last : Moment) (number x : ℕ) → recordsPlace ≤ i → last ≡ lastIn (w .phase)
+    → number ≡ phaseNumber (w .phase) → x ≡ numberByte (w .records) (w .signals) last number i → x ≡ byteAt w i
+byte-made w i last number x a l n e =
+    let made : x ≡ numberByte (w .records) (w .signals) (lastIn (w .phase)) (phaseNumber (w .phase)) i = cc in
     made ∙ byte-number w i a

@@ -9,6 +9,7 @@ use lib.ListN.{getD}
 use Rattle.ground.specs.Bytes.{little}
 use Rattle.ground.proofs.ByteLaws.{little-lt}
 use Rattle.ground.proofs.Tabs.{length-tab}
+use Rattle.rewriting.specs.declared.step.Moment.{Moment}
 use Rattle.watcher.specs.declared.state.Watcher.{Watcher}
 use Rattle.watcher.specs.declared.state.Phase.{Phase}
 use Rattle.watcher.specs.declared.state.Phase.the-variants.{Fresh, Running, Closed}
@@ -18,7 +19,7 @@ use Rattle.watcher.specs.Calls.{zeroState}
 use Rattle.watcher.specs.Machine.{MachineBytes, MachinePhase, MachineState}
 use Rattle.watcher.proofs.Machines.{bytes-tab, machine-zero}
 use Rattle.port.specs.Layout.{stateBytes, rulePlace, listPlace, recordsPlace, signalsPlace, timePlace, wordPlace}
-use Rattle.port.specs.Layout.{phasePlace, zeroPlace, digit, phaseNumber, timeIn, signalsIn, numberByte, byteAt}
+use Rattle.port.specs.Layout.{phasePlace, zeroPlace, digit, phaseNumber, lastIn, numberByte, byteAt}
 use Rattle.port.specs.Layout.{written, phaseWith, listAt, stateIn}
 
 phase-machine : (n time signals : ℕ) → time < 2 ^ 32 → signals < 2 ^ 16 → MachinePhase (phaseWith n time signals)
@@ -61,7 +62,6 @@ digit-byte n zero = omega arith
 digit-byte n (suc k) = digit-byte (n / 256) k
 
 phase-byte : (p : Phase) → phaseNumber p < 256
-unfolding phaseNumber
 phase-byte Fresh = omega arith
 phase-byte (Running time signals) = omega arith
 phase-byte (Closed Kept) = omega arith
@@ -71,14 +71,14 @@ either-byte : (b : Bool) (x y : ℕ) → x < 256 → y < 256 → cond b x y < 25
 either-byte true x y h k = h
 either-byte false x y h k = k
 
-number-byte : (records signals time word phase i : ℕ) → phase < 256
-    → numberByte records signals time word phase i < 256
+number-byte : (records signals : ℕ) (last : Moment) (phase i : ℕ) → phase < 256
+    → numberByte records signals last phase i < 256
 unfolding numberByte
-number-byte records signals time word phase i h =
+number-byte records signals last phase i h =
     either-byte (ltb i signalsPlace) _ _ (digit-byte records _)
     (either-byte (ltb i timePlace) _ _ (digit-byte signals _)
-    (either-byte (ltb i wordPlace) _ _ (digit-byte time _)
-    (either-byte (ltb i phasePlace) _ _ (digit-byte word _)
+    (either-byte (ltb i wordPlace) _ _ (digit-byte (last .time) _)
+    (either-byte (ltb i phasePlace) _ _ (digit-byte (last .signals) _)
     (either-byte (ltb i zeroPlace) phase 0 h (omega arith)))))
 
 pub written-bytes : (w : Watcher) → MachineState w → MachineBytes (written w)
@@ -88,5 +88,4 @@ written-bytes w s =
     (λ i.
     either-byte (ltb i listPlace) _ _ (s .rule i)
     (either-byte (ltb i recordsPlace) _ _ (s .list (i - listPlace))
-    (number-byte (w .records) (w .signals) (timeIn (w .phase)) (signalsIn (w .phase)) (phaseNumber (w .phase)) i
-    (phase-byte (w .phase)))))
+    (number-byte (w .records) (w .signals) (lastIn (w .phase)) (phaseNumber (w .phase)) i (phase-byte (w .phase)))))

@@ -6,6 +6,7 @@ use native.Mathlib.Omega.{arith}
 use lib.ListN.{length, getD}
 use Rattle.ground.specs.Bytes.{little}
 use Rattle.ground.proofs.Tabs.{getD-tab, tab-is}
+use Rattle.rewriting.specs.declared.step.Moment.{Moment}
 use Rattle.watcher.specs.declared.state.Watcher.{Watcher}
 use Rattle.watcher.specs.declared.state.Phase.{Phase}
 use Rattle.watcher.specs.declared.state.Phase.the-variants.{Fresh, Running, Closed}
@@ -13,7 +14,7 @@ use Rattle.watcher.specs.declared.state.Verdict.the-variants.{Kept, Broken}
 use Rattle.watcher.specs.Limits.{listBytes}
 use Rattle.watcher.specs.Machine.{MachinePhase, MachineState}
 use Rattle.port.specs.Layout.{stateBytes, rulePlace, listPlace, recordsPlace, signalsPlace, timePlace, wordPlace}
-use Rattle.port.specs.Layout.{phasePlace, digit, phaseNumber, timeIn, signalsIn, byteAt, written, phaseWith}
+use Rattle.port.specs.Layout.{phasePlace, digit, phaseNumber, lastIn, numberByte, byteAt, written, phaseWith}
 use Rattle.port.specs.Layout.{listAt, stateIn}
 use Rattle.port.proofs.Digits.{little-digits}
 use Rattle.port.proofs.Layouts.{number-records, number-signals, number-time, number-word, number-phase}
@@ -25,11 +26,8 @@ unfolding written
 written-at w i h = getD-tab stateBytes (byteAt w) i 0 h
 
 module _ (w : Watcher) where
-  abbrev time : ℕ
-  time = timeIn (w .phase)
-
-  abbrev word : ℕ
-  word = signalsIn (w .phase)
+  abbrev last : Moment
+  last = lastIn (w .phase)
 
   abbrev phase : ℕ
   phase = phaseNumber (w .phase)
@@ -52,83 +50,69 @@ module _ (w : Watcher) where
       ∙ sym (written-at w (listPlace + i) (omega arith)))
 
   -- a number's bytes from a place on
-  number-back : (place n x : ℕ) → place + n ≤ stateBytes → x < 256 ^ n
+  number-back : (place n x : ℕ) → recordsPlace ≤ place → place + n ≤ stateBytes → x < 256 ^ n
       → ((k : ℕ) → k < n
-      → digit x (place + k - place) ≡ byteAt w (place + k))
+      → digit x (place + k - place) ≡ numberByte (w .records) (w .signals) last phase (place + k))
       → x ≡ little (written w) place n
-  number-back place n x b h p =
+  number-back place n x a b h p =
       sym
       (little-digits (written w) place n x
       (λ k l.
       let e : place + k - place ≡ k = omega arith in
-      written-at w (place + k) (omega arith) ∙ sym (p k l) ∙ ap (digit x) e) h)
+      written-at w (place + k) (omega arith) ∙ sym (p k l ∙ byte-number w (place + k) (omega arith))
+      ∙ ap (digit x) e) h)
 
   records-back : w .records < 2 ^ 64 → w .records ≡ little (written w) recordsPlace 8
   records-back h =
-      number-back recordsPlace 8 (w .records) (omega arith) h
-      (λ k l.
-      number-records (w .records) (w .signals) time word phase (recordsPlace + k) (omega arith)
-      ∙ byte-number w (recordsPlace + k) (omega arith))
+      number-back recordsPlace 8 (w .records) (omega arith) (omega arith) h
+      (λ k l. number-records _ _ _ _ (recordsPlace + k) (omega arith))
 
   signals-back : w .signals < 2 ^ 64 → w .signals ≡ little (written w) signalsPlace 8
   signals-back h =
-      number-back signalsPlace 8 (w .signals) (omega arith) h
-      (λ k l.
-      number-signals (w .records) (w .signals) time word phase (signalsPlace + k) (omega arith) (omega arith)
-      ∙ byte-number w (signalsPlace + k) (omega arith))
+      number-back signalsPlace 8 (w .signals) (omega arith) (omega arith) h
+      (λ k l. number-signals _ _ _ _ (signalsPlace + k) (omega arith) (omega arith))
 
-  time-back : time < 2 ^ 32 → time ≡ little (written w) timePlace 4
+  time-back : last .time < 2 ^ 32 → last .time ≡ little (written w) timePlace 4
   time-back h =
-      number-back timePlace 4 time (omega arith) h
-      (λ k l.
-      number-time (w .records) (w .signals) time word phase (timePlace + k) (omega arith) (omega arith)
-      ∙ byte-number w (timePlace + k) (omega arith))
+      number-back timePlace 4 (last .time) (omega arith) (omega arith) h
+      (λ k l. number-time _ _ _ _ (timePlace + k) (omega arith) (omega arith))
 
-  word-back : word < 2 ^ 16 → word ≡ little (written w) wordPlace 2
+  word-back : last .signals < 2 ^ 16 → last .signals ≡ little (written w) wordPlace 2
   word-back h =
-      number-back wordPlace 2 word (omega arith) h
-      (λ k l.
-      number-word (w .records) (w .signals) time word phase (wordPlace + k) (omega arith) (omega arith)
-      ∙ byte-number w (wordPlace + k) (omega arith))
+      number-back wordPlace 2 (last .signals) (omega arith) (omega arith) h
+      (λ k l. number-word _ _ _ _ (wordPlace + k) (omega arith) (omega arith))
 
   number-of-phase : phase ≡ getD (written w) phasePlace 0
   number-of-phase =
-      number-phase (w .records) (w .signals) time word phase phasePlace (omega arith) (omega arith)
+      number-phase _ _ _ phase phasePlace (omega arith) (omega arith)
       ∙ byte-number w phasePlace (omega arith) ∙ sym (written-at w phasePlace (omega arith))
 
 -- a phase is that of its number, with its time and its signals
 phase-small : (p : Phase) → phaseNumber p ≤ 3
-unfolding phaseNumber
 phase-small Fresh = omega arith
 phase-small (Running time signals) = omega arith
 phase-small (Closed Kept) = omega arith
 phase-small (Closed Broken) = omega arith
 
-phase-back : (p : Phase) → p ≡ phaseWith (phaseNumber p) (timeIn p) (signalsIn p)
-unfolding phaseNumber phaseWith timeIn signalsIn
+phase-back : (p : Phase) → p ≡ phaseWith (phaseNumber p) (lastIn p .time) (lastIn p .signals)
+unfolding phaseWith lastIn
 phase-back Fresh = refl
 phase-back (Running time signals) = refl
 phase-back (Closed Kept) = refl
 phase-back (Closed Broken) = refl
 
 -- its time has 32 bits, and its signals 16
-time-small : (p : Phase) → MachinePhase p → timeIn p < 2 ^ 32
-unfolding MachinePhase timeIn
-time-small Fresh m = omega arith
-time-small (Running time signals) m = m .0
-time-small (Closed v) m = omega arith
-
-word-small : (p : Phase) → MachinePhase p → signalsIn p < 2 ^ 16
-unfolding MachinePhase signalsIn
-word-small Fresh m = omega arith
-word-small (Running time signals) m = m .1
-word-small (Closed v) m = omega arith
+last-small : (p : Phase) → MachinePhase p → (lastIn p .time < 2 ^ 32) × (lastIn p .signals < 2 ^ 16)
+unfolding MachinePhase lastIn
+last-small Fresh m = (omega arith, omega arith)
+last-small (Running time signals) m = m
+last-small (Closed v) m = (omega arith, omega arith)
 
 -- reading back what was written gives the state
 pub read-back : (w : Watcher) → MachineState w → w ≡ stateIn (written w)
 read-back w s =
-    read-some (written w) (w .rule) (w .list) (phaseNumber (w .phase)) (w .records) (w .signals) (timeIn (w .phase))
-    (signalsIn (w .phase)) (w .phase) (number-of-phase w) (phase-small (w .phase)) (rule-back w (s .long-rule))
-    (list-back w (s .long-list)) (time-back w (time-small (w .phase) (s .phase)))
-    (word-back w (word-small (w .phase) (s .phase))) (phase-back (w .phase))
-    (records-back w (s .records)) (signals-back w (s .signals))
+    let small = last-small (w .phase) (s .phase) in
+    read-some (written w) (w .rule) (w .list) (phaseNumber (w .phase)) (w .records) (w .signals)
+    (lastIn (w .phase) .time) (lastIn (w .phase) .signals) (w .phase) (number-of-phase w) (phase-small (w .phase))
+    (rule-back w (s .long-rule)) (list-back w (s .long-list)) (time-back w (small .0)) (word-back w (small .1))
+    (phase-back (w .phase)) (records-back w (s .records)) (signals-back w (s .signals))

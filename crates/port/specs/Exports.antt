@@ -5,15 +5,14 @@ use Prim.Native.Nat.{ℕ}
 use lib.Dec.{eqb}
 use lib.ListN.{length}
 use Rattle.meaning.specs.Horizon.{never}
+use Rattle.watcher.specs.declared.state.Watcher.{Watcher}
 use Rattle.watcher.specs.declared.state.Started.{Started}
 use Rattle.watcher.specs.declared.state.Answer.{Answer}
-use Rattle.watcher.specs.declared.state.Answer.the-variants as answer
-use Rattle.watcher.specs.declared.state.End.{End}
-use Rattle.watcher.specs.declared.state.End.the-variants as end
+use Rattle.watcher.specs.declared.state.Answer.the-variants.{Accepted, Refused}
 use Rattle.watcher.specs.declared.state.Fed.{Fed}
 use Rattle.watcher.specs.declared.state.Ended.{Ended}
 use Rattle.watcher.specs.Calls.{startOf, feedOf, feedRefusal, closeOf, waitOf}
-use Rattle.port.specs.Codes.{stateLength, foundCode, answerCode, endCode, horizonCode}
+use Rattle.port.specs.Codes.{stateLength, foundCode, answerCode, asAnswer, horizonCode}
 use Rattle.port.specs.Layout.{stateBytes, written, stateIn}
 
 -- bytes that are no state
@@ -33,27 +32,25 @@ unfoldable pub refusalBytes : (bytes piece ws : List ℕ) → ℕ
 refusalBytes bytes piece ws =
     cond (wrongState bytes) stateLength (foundCode (feedRefusal (stateIn bytes) piece ws))
 
--- feed: the bytes hold the next state if the record is accepted, and stay if not
+-- an answer: its code, and the bytes hold the next state; if it is a refusal, they stay
 unfoldable pub keptUnless : Answer → (next bytes : List ℕ) → List ℕ
-keptUnless (answer.Accepted report) next bytes = next
-keptUnless (answer.Refused r) next bytes = bytes
+keptUnless (Accepted report) next bytes = next
+keptUnless (Refused r) next bytes = bytes
 
+unfoldable pub answeredBytes : Answer → Watcher → (ws bytes : List ℕ) → ℕ × List ℕ × List ℕ
+answeredBytes a next ws bytes = (answerCode a, keptUnless a (written next) bytes, ws)
+
+-- feed: the answer to the record
 unfoldable pub fedBytes : Fed × List ℕ → List ℕ → ℕ × List ℕ × List ℕ
-fedBytes s bytes =
-    (answerCode (s .0 .answer), keptUnless (s .0 .answer) (written (s .0 .next)) bytes, s .1)
+fedBytes s bytes = answeredBytes (s .0 .answer) (s .0 .next) (s .1) bytes
 
 unfoldable pub feedBytes : (bytes piece ws : List ℕ) → ℕ × List ℕ × List ℕ
 feedBytes bytes piece ws =
     cond (wrongState bytes) (stateLength, bytes, ws) (fedBytes (feedOf (stateIn bytes) piece ws) bytes)
 
--- close: the bytes hold the closed state, and stay if closing is refused
-unfoldable pub openUnless : End → (next bytes : List ℕ) → List ℕ
-openUnless (end.Closed v) next bytes = next
-openUnless (end.Refused r) next bytes = bytes
-
+-- close: its answer, as one to a record
 unfoldable pub endedBytes : Ended × List ℕ → List ℕ → ℕ × List ℕ × List ℕ
-endedBytes s bytes =
-    (endCode (s .0 .answer), openUnless (s .0 .answer) (written (s .0 .next)) bytes, s .1)
+endedBytes s bytes = answeredBytes (asAnswer (s .0 .answer)) (s .0 .next) (s .1) bytes
 
 unfoldable pub closeBytes : (bytes ws : List ℕ) → ℕ × List ℕ × List ℕ
 closeBytes bytes ws =

@@ -7,6 +7,7 @@ use lib.Dec.{ltb}
 use lib.ListN.{getD}
 use Rattle.ground.specs.Fold.{tab}
 use Rattle.ground.specs.Bytes.{little}
+use Rattle.rewriting.specs.declared.step.Moment.{Moment}
 use Rattle.watcher.specs.declared.state.Watcher.{Watcher}
 use Rattle.watcher.specs.declared.state.Phase.{Phase}
 use Rattle.watcher.specs.declared.state.Phase.the-variants.{Fresh, Running, Closed}
@@ -50,37 +51,32 @@ digit n zero = n % 256
 digit n (suc k) = digit (n / 256) k
 
 -- the number of a phase
-unfoldable pub phaseNumber : Phase → ℕ
+abbrev pub phaseNumber : Phase → ℕ
 phaseNumber Fresh = 0
 phaseNumber (Running time signals) = 1
 phaseNumber (Closed Kept) = 2
 phaseNumber (Closed Broken) = 3
 
--- the time and the signals of a phase's last record; zero where it holds none
-unfoldable pub timeIn : Phase → ℕ
-timeIn Fresh = 0
-timeIn (Running time signals) = time
-timeIn (Closed v) = 0
-
-unfoldable pub signalsIn : Phase → ℕ
-signalsIn Fresh = 0
-signalsIn (Running time signals) = signals
-signalsIn (Closed v) = 0
+-- the last record of a phase; zeros where it holds none
+unfoldable pub lastIn : Phase → Moment
+lastIn Fresh = record { time = 0; signals = 0 }
+lastIn (Running time signals) = record { time = time; signals = signals }
+lastIn (Closed v) = record { time = 0; signals = 0 }
 
 -- the byte of a state's numbers at a place behind its lists
-unfoldable pub numberByte : (records signals time word phase : ℕ) → ℕ → ℕ
-numberByte records signals time word phase i =
+unfoldable pub numberByte : (records signals : ℕ) → Moment → (phase : ℕ) → ℕ → ℕ
+numberByte records signals last phase i =
     cond (ltb i signalsPlace) (digit records (i - recordsPlace))
     (cond (ltb i timePlace) (digit signals (i - signalsPlace))
-    (cond (ltb i wordPlace) (digit time (i - timePlace))
-    (cond (ltb i phasePlace) (digit word (i - wordPlace)) (cond (ltb i zeroPlace) phase 0))))
+    (cond (ltb i wordPlace) (digit (last .time) (i - timePlace))
+    (cond (ltb i phasePlace) (digit (last .signals) (i - wordPlace)) (cond (ltb i zeroPlace) phase 0))))
 
 -- the byte of a state at a place
 unfoldable pub byteAt : Watcher → ℕ → ℕ
 byteAt w i =
     cond (ltb i listPlace) (getD (w .rule) i 0)
     (cond (ltb i recordsPlace) (getD (w .list) (i - listPlace) 0)
-    (numberByte (w .records) (w .signals) (timeIn (w .phase)) (signalsIn (w .phase)) (phaseNumber (w .phase)) i))
+    (numberByte (w .records) (w .signals) (lastIn (w .phase)) (phaseNumber (w .phase)) i))
 
 -- a state in bytes
 unfoldable pub written : Watcher → List ℕ

@@ -1,17 +1,20 @@
 // The watcher call by call, with its state in lent bytes.
 use crate::codes::FOREVER;
 use crate::codes::STATE_LENGTH;
+use crate::codes::answer_code;
+use crate::codes::as_answer;
 use crate::codes::found_code;
 use crate::codes::horizon_code;
-use crate::codes::refusal_code;
-use crate::codes::verdict_code;
-use crate::codes::word_code;
 use crate::layout::STATE_BYTES;
 use crate::layout::read_state;
 use crate::layout::write_state;
 use watcher::state::Answer;
-use watcher::state::End;
 use watcher::state::Watcher;
+ghost use mathlib.Core.Path.{_≡_};
+ghost use lib.ListN.{length};
+ghost use Rattle.port.specs.Codes.{answerCode};
+ghost use Rattle.port.specs.Layout.{stateBytes, written};
+ghost use Rattle.port.specs.Exports.{keptUnless};
 ghost use Rattle.port.specs.Clauses.{StartClause, WouldRefuseClause, FeedClause, CloseClause, HorizonClause};
 
 // Start a watcher.
@@ -47,6 +50,22 @@ pub extern "C" fn hunchcold_would_refuse(bytes: &[u8], piece: &[u8], area: &[u64
     found_code(state.would_refuse(piece, area))
 }
 
+// The code of an answer; the next state is written unless it is a refusal.
+fn write_answer(answer: Answer, next: Watcher, bytes: &mut [u8]) -> u8
+    requires { ⌜ length (now bytes) ≡ stateBytes ⌝ }
+    ensures { λ r. ⌜ (r ≡ answerCode answer)
+        × (now (bytes .exit) ≡ keptUnless answer (written next) (now (bytes .entry))) ⌝ }
+{
+    let code = answer_code(answer);
+    match answer {
+        Answer::Accepted(_) => {
+            write_state(next, bytes);
+            code
+        }
+        Answer::Refused(_) => code,
+    }
+}
+
 // Feed one record.
 #[no_mangle]
 pub extern "C" fn hunchcold_feed(bytes: &mut [u8], piece: &[u8], area: &mut [u64]) -> u8
@@ -60,14 +79,7 @@ pub extern "C" fn hunchcold_feed(bytes: &mut [u8], piece: &[u8], area: &mut [u64
     let fed = state.feed(piece, area);
     let answer = fed.answer;
     let next = fed.next;
-    match answer {
-        Answer::Accepted(report) => {
-            write_state(next, bytes);
-            let word = report.word;
-            word_code(word)
-        }
-        Answer::Refused(refusal) => refusal_code(refusal),
-    }
+    write_answer(answer, next, bytes)
 }
 
 // Close the log.
@@ -82,13 +94,7 @@ pub extern "C" fn hunchcold_close(bytes: &mut [u8], area: &mut [u64]) -> u8
     let ended = state.close(area);
     let end = ended.answer;
     let next = ended.next;
-    match end {
-        End::Closed(verdict) => {
-            write_state(next, bytes);
-            verdict_code(verdict)
-        }
-        End::Refused(refusal) => refusal_code(refusal),
-    }
+    write_answer(as_answer(end), next, bytes)
 }
 
 // How long the rule can stay open, in minutes.

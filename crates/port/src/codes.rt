@@ -3,12 +3,12 @@ use watcher::state::Answer;
 use watcher::state::End;
 use watcher::state::Found;
 use watcher::state::Refusal;
-use watcher::state::Verdict;
+use watcher::state::Report;
 use watcher::state::Wait;
 use watcher::state::Word;
 ghost use mathlib.Core.Path.{_≡_};
 ghost use Rattle.watcher.specs.Numbers.{refusalNumber, horizonFor};
-ghost use Rattle.port.specs.Codes.{wordCode, verdictCode, foundCode, answerCode, endCode, horizonCode};
+ghost use Rattle.port.specs.Codes.{wordCode, foundCode, answerCode, asAnswer, horizonCode};
 
 // Codes that are not one for each piece of the log.
 pub(crate) const CODES_LENGTH: u8 = 90;
@@ -37,16 +37,6 @@ pub(crate) fn word_code(word: Word) -> u8
     }
 }
 
-// The code of a verdict.
-pub(crate) fn verdict_code(verdict: Verdict) -> u8
-    ensures { λ r. ⌜ r ≡ verdictCode verdict ⌝ }
-{
-    match verdict {
-        Verdict::Kept => 101,
-        Verdict::Broken => 102,
-    }
-}
-
 // The code of what a check finds.
 pub(crate) fn found_code(found: Found) -> u8
     ensures { λ r. ⌜ r ≡ foundCode found ⌝ }
@@ -57,7 +47,7 @@ pub(crate) fn found_code(found: Found) -> u8
     }
 }
 
-// The code of the answer to a record.
+// The code of an answer.
 pub(crate) fn answer_code(answer: Answer) -> u8
     ensures { λ r. ⌜ r ≡ answerCode answer ⌝ }
 {
@@ -70,13 +60,16 @@ pub(crate) fn answer_code(answer: Answer) -> u8
     }
 }
 
-// The code of the answer to closing.
-pub(crate) fn end_code(end: End) -> u8
-    ensures { λ r. ⌜ r ≡ endCode end ⌝ }
+// The answer to closing as one to a record: a verdict is the word that says the same.
+pub(crate) fn as_answer(end: End) -> Answer
+    ensures { λ r. ⌜ r ≡ asAnswer end ⌝ }
 {
     match end {
-        End::Closed(verdict) => verdict_code(verdict),
-        End::Refused(refusal) => refusal_code(refusal),
+        End::Closed(verdict) => {
+            let word = verdict.word();
+            Answer::Accepted(Report { word })
+        }
+        End::Refused(refusal) => Answer::Refused(refusal),
     }
 }
 

@@ -2,6 +2,7 @@
 use ground::bytes::byte;
 use ground::bytes::four;
 use ground::bytes::two;
+use rewriting::step::Moment;
 use watcher::state::Phase;
 use watcher::state::Verdict;
 use watcher::state::Watcher;
@@ -9,10 +10,8 @@ ghost use mathlib.Core.Path.{_≡_};
 ghost use Prim.Native.Nat.{_+_, _≤_};
 ghost use lib.ListN.{length};
 ghost use Rattle.ground.specs.Bytes.{little};
-ghost use Rattle.watcher.specs.declared.state.Phase.the-variants.{Closed};
 ghost use Rattle.watcher.specs.Limits.{listBytes};
-ghost use Rattle.watcher.specs.Calls.{zeroState};
-ghost use Rattle.port.specs.Layout.{stateBytes, recordsPlace, digit, phaseNumber, timeIn, signalsIn};
+ghost use Rattle.port.specs.Layout.{stateBytes, recordsPlace, digit, phaseNumber, lastIn};
 ghost use Rattle.port.specs.Layout.{numberByte, written, phaseWith, listAt, stateIn};
 ghost use Rattle.port.specs.Steps.{listPut};
 
@@ -35,19 +34,6 @@ const ZERO: usize = PHASE + 1;
 
 // The bytes of a state.
 pub(crate) const STATE_BYTES: usize = ZERO + 1;
-
-// A fresh state of zeros.
-fn zero_state() -> Watcher
-    ensures { λ r. ⌜ r ≡ zeroState ⌝ }
-{
-    Watcher {
-        rule: [0; Watcher::LIST_BYTES],
-        records: 0,
-        list: [0; Watcher::LIST_BYTES],
-        signals: 0,
-        phase: Phase::Fresh,
-    }
-}
 
 // The number of the eight bytes from `at` on.
 fn eight(bytes: &[u8], at: usize) -> usize
@@ -95,7 +81,7 @@ pub(crate) fn read_state(bytes: &[u8]) -> Watcher
 {
     let number = byte(bytes, PHASE);
     if number > 3 {
-        return zero_state();
+        return Watcher::zero_state();
     }
     let rule = list_at(bytes, RULE);
     let list = list_at(bytes, LIST);
@@ -122,16 +108,6 @@ fn digit(n: usize, k: usize) -> u8
     (rest % 256) as u8
 }
 
-// The number of a verdict's phase.
-fn closed_number(verdict: Verdict) -> u8
-    ensures { λ r. ⌜ r ≡ phaseNumber (Closed verdict) ⌝ }
-{
-    match verdict {
-        Verdict::Kept => 2,
-        Verdict::Broken => 3,
-    }
-}
-
 // The number of a phase.
 fn phase_number(phase: Phase) -> u8
     ensures { λ r. ⌜ r ≡ phaseNumber phase ⌝ }
@@ -142,36 +118,34 @@ fn phase_number(phase: Phase) -> u8
             time: _,
             signals: _,
         } => 1,
-        Phase::Closed(verdict) => closed_number(verdict),
+        Phase::Closed(verdict) => match verdict {
+            Verdict::Kept => 2,
+            Verdict::Broken => 3,
+        },
     }
 }
 
-// The time of a phase's last record.
-fn time_in(phase: Phase) -> u32
-    ensures { λ r. ⌜ r ≡ timeIn phase ⌝ }
+// The last record of a phase.
+fn last_in(phase: Phase) -> Moment
+    ensures { λ r. ⌜ r ≡ lastIn phase ⌝ }
 {
     match phase {
-        Phase::Fresh => 0,
-        Phase::Running { time, signals: _ } => time,
-        Phase::Closed(_) => 0,
-    }
-}
-
-// The signals of a phase's last record.
-fn signals_in(phase: Phase) -> u16
-    ensures { λ r. ⌜ r ≡ signalsIn phase ⌝ }
-{
-    match phase {
-        Phase::Fresh => 0,
-        Phase::Running { time: _, signals } => signals,
-        Phase::Closed(_) => 0,
+        Phase::Fresh => Moment {
+            time: 0,
+            signals: 0,
+        },
+        Phase::Running { time, signals } => Moment { time, signals },
+        Phase::Closed(_) => Moment {
+            time: 0,
+            signals: 0,
+        },
     }
 }
 
 // The byte of a state's numbers at a place behind its lists.
-fn number_byte(records: usize, signals: usize, time: u32, word: u16, phase: u8, i: usize) -> u8
+fn number_byte(records: usize, signals: usize, last: Moment, phase: u8, i: usize) -> u8
     requires { ⌜ recordsPlace ≤ i ⌝ }
-    ensures { λ r. ⌜ r ≡ numberByte records signals time word phase i ⌝ }
+    ensures { λ r. ⌜ r ≡ numberByte records signals last phase i ⌝ }
 {
     if i < SIGNALS {
         return digit(records, i - RECORDS);
@@ -180,10 +154,10 @@ fn number_byte(records: usize, signals: usize, time: u32, word: u16, phase: u8, 
         return digit(signals, i - SIGNALS);
     }
     if i < WORD {
-        return digit(time as usize, i - TIME);
+        return digit(last.time as usize, i - TIME);
     }
     if i < PHASE {
-        return digit(word as usize, i - WORD);
+        return digit(last.signals as usize, i - WORD);
     }
     if i < ZERO { phase } else { 0 }
 }
@@ -206,12 +180,11 @@ pub(crate) fn write_state(state: Watcher, bytes: &mut [u8])
     let rule = state.rule;
     let list = state.list;
     let phase = state.phase;
-    let time = time_in(phase);
-    let word = signals_in(phase);
+    let last = last_in(phase);
     let number = phase_number(phase);
     put_list(bytes, RULE, &rule);
     put_list(bytes, LIST, &list);
     for i in RECORDS..STATE_BYTES {
-        bytes[i] = number_byte(state.records, state.signals, time, word, number, i);
+        bytes[i] = number_byte(state.records, state.signals, last, number, i);
     }
 }

@@ -3,10 +3,11 @@
 use mathlib.Core.Path.{_≡_, refl, sym, subst}
 use mathlib.Core.Bool.{Bool}
 use mathlib.Core.Logic.{⊎-elim}
-use mathlib.Core.List.{List, []}
-use Prim.Native.Nat.{ℕ, _^_, _≤_, _<_}
+use mathlib.Core.List.{List, [], _∷_}
+use Prim.Native.Nat.{ℕ, zero, suc, _+_, _^_, _≤_, _<_}
 use native.Mathlib.Omega.{arith}
-use lib.ListN.{length, getD, length-replicate}
+use lib.ListN.{length, getD, take, drop, length-replicate}
+use lib.Seq.{getD-drop}
 use Rattle.ground.specs.Fold.{tab}
 use Rattle.ground.proofs.ByteLaws.{little-lt}
 use Rattle.ground.proofs.Folds.{less-or-not}
@@ -31,6 +32,16 @@ pub bytes-tab : (n : ℕ) (g : ℕ → ℕ) → ((i : ℕ) → g i < 256) → Ma
 bytes-tab n g h i =
     ⊎-elim (λ l. subst (λ x. x < 256) (sym (getD-tab n g i 0 l)) (h i))
     (λ l. subst (λ x. x < 256) (sym (getD-tab-out n g i 0 l)) (omega arith)) (less-or-not i n)
+
+-- the first bytes of some, and those behind them
+pub bytes-take : (n : ℕ) (bytes : List ℕ) → MachineBytes bytes → MachineBytes (take n bytes)
+bytes-take zero bytes h i = omega arith
+bytes-take (suc n) [] h i = omega arith
+bytes-take (suc n) (b ∷ bytes) h zero = h zero
+bytes-take (suc n) (b ∷ bytes) h (suc i) = bytes-take n bytes (λ j. h (suc j)) i
+
+pub bytes-drop : (n : ℕ) (bytes : List ℕ) → MachineBytes bytes → MachineBytes (drop n bytes)
+bytes-drop n bytes h i = subst (λ x. x < 256) (sym (getD-drop n bytes i 0)) (h (n + i))
 
 pub machine-zero : MachineState zeroState
 unfolding zeroState MachinePhase

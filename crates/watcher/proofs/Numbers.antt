@@ -2,7 +2,8 @@
 -- Assumes nothing.
 use mathlib.Core.Path.{_≡_, refl, sym, ap, _∙_}
 use mathlib.Core.List.{List, [], _∷_}
-use Prim.Native.Nat.{ℕ}
+use Prim.Native.Nat.{ℕ, _≤_}
+use lib.Dec.{lit≤}
 use lib.ListN.{getD}
 use Rattle.watcher.specs.declared.state.Watcher.{Watcher}
 use Rattle.watcher.specs.declared.state.Verdict.{Verdict}
@@ -64,6 +65,22 @@ back BrokenState = refl
 
 pub refusal-number-one : (a b : Refusal) → refusalNumber a ≡ refusalNumber b → a ≡ b
 refusal-number-one a b e = sym (back a) ∙ ap refusalOf e ∙ back b
+
+-- no number is above 12
+pub number-most : (r : Refusal) → refusalNumber r ≤ 12
+unfolding refusalNumber
+number-most RuleLength = lit≤ tt
+number-most RuleRecord = lit≤ tt
+number-most RuleTwins = lit≤ tt
+number-most RuleParameters = lit≤ tt
+number-most SignalList = lit≤ tt
+number-most SignalMissing = lit≤ tt
+number-most AreaLength = lit≤ tt
+number-most LogRecord = lit≤ tt
+number-most LogTime = lit≤ tt
+number-most AlreadyClosed = lit≤ tt
+number-most NothingFed = lit≤ tt
+number-most BrokenState = lit≤ tt
 
 pub valued : (v : Verdict) → verdictFor (verdictValue v) ≡ v
 unfolding verdictValue verdictFor

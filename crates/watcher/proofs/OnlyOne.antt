@@ -12,14 +12,22 @@ use Rattle.watcher.specs.declared.state.Ended.{Ended}
 use Rattle.watcher.specs.declared.state.Found.{Found}
 use Rattle.watcher.specs.declared.state.Refusal.{Refusal}
 use Rattle.watcher.specs.declared.state.Wait.{Wait}
+use Rattle.watcher.specs.declared.state.Word.{Word}
+use Rattle.watcher.specs.declared.state.Verdict.{Verdict}
 use Rattle.watcher.specs.declared.state.Limits.{Limits}
-use Rattle.watcher.specs.Clauses.{LimitsClause, CheckListsClause, NumberClause}
+use Rattle.watcher.specs.Clauses.{LimitsClause, WordClause, ZeroStateClause, CheckListsClause, NumberClause}
 use Rattle.watcher.specs.Clauses.{WrongRecordClause, TimeOfClause, SignalWordClause}
 use Rattle.watcher.specs.Clauses.{StartClause, WouldRefuseClause, FeedClause, CloseClause, HorizonClause}
 use Rattle.watcher.proofs.Numbers.{horizon-one}
 
 pub only-limits : (o o′ : Limits) → LimitsClause o → LimitsClause o′ → o ≡ o′
 only-limits = only-one _
+
+pub only-word : (verdict : Verdict) (o o′ : Word) → WordClause verdict o → WordClause verdict o′ → o ≡ o′
+only-word verdict = only-one _
+
+pub only-zero-state : (o o′ : Watcher) → ZeroStateClause o → ZeroStateClause o′ → o ≡ o′
+only-zero-state = only-one _
 
 pub only-check-lists : (rule signals : List ℕ) (o o′ : Found) → CheckListsClause rule signals o
     → CheckListsClause rule signals o′ → o ≡ o′

@@ -10,16 +10,27 @@ use Rattle.watcher.specs.declared.state.Ended.{Ended}
 use Rattle.watcher.specs.declared.state.Found.{Found}
 use Rattle.watcher.specs.declared.state.Refusal.{Refusal}
 use Rattle.watcher.specs.declared.state.Wait.{Wait}
+use Rattle.watcher.specs.declared.state.Word.{Word}
+use Rattle.watcher.specs.declared.state.Verdict.{Verdict}
 use Rattle.watcher.specs.declared.state.Limits.{Limits}
 use Rattle.watcher.specs.Limits.{limitsOf}
 use Rattle.watcher.specs.Lists.{listsRefusal}
 use Rattle.watcher.specs.Records.{wrongRecord, timeOf, signalWord}
-use Rattle.watcher.specs.Numbers.{refusalNumber, horizonFor}
-use Rattle.watcher.specs.Calls.{startOf, feedRefusal, feedOf, closeOf, waitOf}
+use Rattle.watcher.specs.Numbers.{refusalNumber, verdictValue, horizonFor}
+use Rattle.watcher.specs.Calls.{zeroState, startOf, feedRefusal, feedOf, closeOf, waitOf}
+use Rattle.watcher.specs.Runs.{decided}
 
 -- the limits, as numbers
 abbrev pub LimitsClause : Limits → Type 0
 LimitsClause o = o ≡ limitsOf
+
+-- the word that says what a verdict says
+abbrev pub WordClause : Verdict → Word → Type 0
+WordClause verdict o = o ≡ decided (verdictValue verdict)
+
+-- a fresh state of zeros
+abbrev pub ZeroStateClause : Watcher → Type 0
+ZeroStateClause o = o ≡ zeroState
 
 -- what is refused of the lists that start is given
 abbrev pub CheckListsClause : (rule signals : List ℕ) → Found → Type 0

@@ -32,24 +32,11 @@ ghost use Rattle.rewriting.specs.Plans.{entryFor};
 ghost use Rattle.watcher.specs.declared.state.Found.the-variants.{Fine};
 ghost use Rattle.watcher.specs.Limits.{areaWords};
 ghost use Rattle.watcher.specs.Lists.{listsRefusal};
-ghost use Rattle.watcher.specs.Calls.{zeroState, freshState, runningState};
+ghost use Rattle.watcher.specs.Calls.{freshState, runningState};
 ghost use Rattle.watcher.specs.Calls.{startWith, feedWith, closeWith};
 ghost use Rattle.watcher.specs.Turns.{Passed, endedState};
 ghost use Rattle.watcher.specs.Numbers.{verdictFor};
 ghost use Rattle.watcher.specs.Clauses.{StartClause, WouldRefuseClause, FeedClause, CloseClause, HorizonClause};
-
-// A fresh state of zeros.
-fn zero_state() -> Watcher
-    ensures { λ r. ⌜ r ≡ zeroState ⌝ }
-{
-    Watcher {
-        rule: [0; Watcher::LIST_BYTES],
-        records: 0,
-        list: [0; Watcher::LIST_BYTES],
-        signals: 0,
-        phase: Phase::Fresh,
-    }
-}
 
 // A fresh state with a rule and a list.
 fn fresh_state(rule: &[u8], signals: &[u8]) -> Watcher
@@ -163,7 +150,7 @@ impl Watcher {
         match found {
             Found::Refused(refusal) => Started {
                 found: Found::Refused(refusal),
-                next: zero_state(),
+                next: Watcher::zero_state(),
             },
             Found::Fine => begin(rule, signals, area),
         }

@@ -1,5 +1,5 @@
 // The watcher's state, its limits, and its answers.
-ghost use Rattle.watcher.specs.Clauses.{LimitsClause};
+ghost use Rattle.watcher.specs.Clauses.{LimitsClause, WordClause, ZeroStateClause};
 
 // The word after a record.
 pub enum Word {
@@ -104,6 +104,18 @@ pub struct Limits {
     pub words: usize,
 }
 
+impl Verdict {
+    // The word that says the same.
+    pub fn word(self) -> Word
+        ensures { λ r. ⌜ WordClause self r ⌝ }
+    {
+        match self {
+            Verdict::Kept => Word::Kept,
+            Verdict::Broken => Word::Broken,
+        }
+    }
+}
+
 impl Watcher {
     pub const RECORDS: usize = 16;
 
@@ -117,6 +129,7 @@ impl Watcher {
 
     pub const LOG_BYTES: usize = 16;
 
+    // Words of a row.
     const ROW_WORDS: usize = 64;
 
     // The past rows and the remainder, and as many rows of scratch.
@@ -137,6 +150,18 @@ impl Watcher {
             list_bytes: Self::LIST_BYTES,
             log_bytes: Self::LOG_BYTES,
             words: Self::WORDS,
+        }
+    }
+    // A fresh state of zeros.
+    pub fn zero_state() -> Watcher
+        ensures { λ r. ⌜ ZeroStateClause r ⌝ }
+    {
+        Watcher {
+            rule: [0; Self::LIST_BYTES],
+            records: 0,
+            list: [0; Self::LIST_BYTES],
+            signals: 0,
+            phase: Phase::Fresh,
         }
     }
 }

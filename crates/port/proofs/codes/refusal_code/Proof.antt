@@ -1,7 +1,7 @@
 -- `codes::refusal_code` is the number, which fits a byte.
 -- Assumes nothing.
 use borrow.Author.Needs.{needs}
-use Rattle.port.proofs.Numbers.{number-small}
+use Rattle.port.proofs.Numbers.{number-low}
 use Rattle.port.proofs.codes.refusal_code.Statement.{statement}
 use Rattle.port.proofs.codes.refusal_code.Tie as tie
 
@@ -9,7 +9,7 @@ number-requires : tie.Need-number-requires
 number-requires c κs = search needs
 
 cast-result : tie.Need-cast-result
-cast-result c = let h = number-small (c .before .args .refusal) in search (needs, h)
+cast-result c = let h = number-low (c .before .args .refusal) in search (needs, h)
 
 returns : tie.Need-returns
 returns c = search needs

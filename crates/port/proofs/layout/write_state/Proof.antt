@@ -12,18 +12,15 @@ use Rattle.port.proofs.layout.write_state.Statement.{statement}
 use Rattle.port.proofs.layout.write_state.Tie as tie
 
 abbrev Inv-loop : tie.InvT-loop
-Inv-loop state bytes₀ time word number i₀ bytes i =
+Inv-loop state bytes₀ last number i₀ bytes i =
     (recordsPlace ≤ i) × (i ≤ stateBytes) × (length bytes ≡ stateBytes)
     × ((j : ℕ) → j < i → getD bytes j 0 ≡ byteAt state j)
 
 abbrev μ-loop : tie.MeasureT-loop
-μ-loop state bytes₀ time word number i₀ bytes i = stateBytes - i
+μ-loop state bytes₀ last number i₀ bytes i = stateBytes - i
 
-time-in-requires : tie.Need-time-in-requires Inv-loop μ-loop
-time-in-requires c κs = search needs
-
-signals-in-requires : tie.Need-signals-in-requires Inv-loop μ-loop
-signals-in-requires c κs = search needs
+last-in-requires : tie.Need-last-in-requires Inv-loop μ-loop
+last-in-requires c κs = search needs
 
 phase-number-requires : tie.Need-phase-number-requires Inv-loop μ-loop
 phase-number-requires c κs = search needs
@@ -44,7 +41,7 @@ loop-holds : tie.Need-loop-holds Inv-loop μ-loop
 loop-holds c =
     let put₂ = c .before .before in
     let put₁ = put₂ .before .before .before .before .before in
-    let entry = put₁ .before .before .before .before .before .before .before .before .before in
+    let entry = put₁ .before .before .before .before .before .before .before .before in
     let long : length (put₁ .put-list .last .0) ≡ stateBytes =
     ap length (put₁ .put-list .ensures) ∙ length-put _ _ _ ∙ entry .pre in (
       search needs,
@@ -69,10 +66,10 @@ loop-again : tie.Need-loop-again Inv-loop μ-loop
 loop-again c =
     let p = c .before .before .loop .inv in
     let c₁₀ = c .before .before .before .before .before .before .before .before .before .before in
-    let c₁₃ = c₁₀ .before .before .before in
-    let state = c₁₃ .before .before .before .before .before .before .args .state in
-    let made = byte-made state _ _ _ _ _ (p .0) (c₁₃ .before .before .time-in .ensures)
-    (c₁₃ .before .signals-in .ensures) (c₁₃ .phase-number .ensures) (c .number-byte .ensures) in (
+    let parts = c₁₀ .before .before .before in
+    let state = parts .before .before .before .before .before .args .state in
+    let made = byte-made state _ _ _ _ (p .0) (parts .before .last-in .ensures) (parts .phase-number .ensures)
+    (c .number-byte .ensures) in (
       search needs,
       search needs,
       search needs,
@@ -93,8 +90,7 @@ write-state-spec =
     (tie.spec
     Inv-loop
     μ-loop
-    time-in-requires
-    signals-in-requires
+    last-in-requires
     phase-number-requires
     slice-aggregate-put-list
     put-list-requires

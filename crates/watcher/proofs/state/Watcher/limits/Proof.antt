@@ -1,4 +1,4 @@
--- `state::Watcher::limits` hands out the constants of the state's type.
+-- `Watcher::limits` hands out the constants of the state's type.
 -- Assumes nothing.
 use borrow.Author.Needs.{needs}
 use Rattle.rewriting.specs.Known.{wordsFor}

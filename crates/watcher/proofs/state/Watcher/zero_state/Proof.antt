@@ -1,9 +1,9 @@
--- `calls::zero_state` is zeros.
+-- `Watcher::zero_state` is zeros.
 -- Assumes nothing.
 use borrow.Author.Needs.{needs}
 use Rattle.watcher.specs.Calls.{zeroState}
-use Rattle.watcher.proofs.calls.zero_state.Statement.{statement}
-use Rattle.watcher.proofs.calls.zero_state.Tie as tie
+use Rattle.watcher.proofs.state.Watcher.zero_state.Statement.{statement}
+use Rattle.watcher.proofs.state.Watcher.zero_state.Tie as tie
 
 returns : tie.Need-returns
 unfolding zeroState

@@ -1,0 +1,38 @@
+-- `calls::write_answer` writes the next state if the answer is no refusal.
+-- Assumes nothing.
+use borrow.Author.Needs.{needs}
+use mathlib.Core.Path.{_∙_}
+use Rattle.port.proofs.Exported.{kept-next, kept-here}
+use Rattle.port.proofs.calls.write_answer.Statement.{statement}
+use Rattle.port.proofs.calls.write_answer.Tie as tie
+
+answer-code-requires : tie.Need-answer-code-requires
+answer-code-requires c κs = search needs
+
+enum-told : tie.Need-enum-told
+enum-told c = search needs
+
+write-state-requires : tie.Need-write-state-requires
+write-state-requires c κs = search needs
+
+enum-told-2 : tie.Need-enum-told-2
+enum-told-2 c = search needs
+
+same-length : tie.Need-same-length
+same-length c = search needs
+
+returns : tie.Need-returns
+returns c =
+    let write = c .before .before in
+    let case = write .before .before in (
+      case .before .before .answer-code .ensures,
+      write .write-state .ensures ∙ kept-next _ _ _ _ (case .enum-told .given .1),
+    )
+
+returns-2 : tie.Need-returns-2
+returns-2 c = (c .before .before .answer-code .ensures, kept-here _ _ _ _ (c .enum-told2 .given .1))
+
+pub write-answer-spec : {M : Type 1} → statement M
+write-answer-spec =
+    tie.close
+    (tie.spec answer-code-requires enum-told write-state-requires enum-told-2 same-length returns returns-2)
