@@ -6,16 +6,13 @@ use mathlib.Core.List.{List, [], _∷_, _++_}
 use Prim.Native.Nat.{ℕ, zero, suc, _+_, _/_, _%_, _^_, _≤_, _<_}
 use native.Mathlib.Nat.{pow-succ', lt-of-lt-of-le}
 use native.Mathlib.Omega.{arith}
-use lib.Dec.{ltb, lit<, lit≤}
-use lib.ListN.{length, getD, length-append}
+use lib.Dec.{ltb, lit≤}
+use lib.ListN.{length, length-append}
 use borrow.Author.Tests.{ltb-false}
 use Rattle.ground.proofs.ByteLaws.{little-lt}
 use Rattle.watcher.specs.declared.state.Word.{Word}
 use Rattle.watcher.specs.declared.state.Word.the-variants as word
 use Rattle.watcher.specs.declared.state.Refusal.{Refusal}
-use Rattle.watcher.specs.declared.state.Refusal.the-variants.{RuleLength, RuleRecord, RuleTwins, RuleParameters}
-use Rattle.watcher.specs.declared.state.Refusal.the-variants.{SignalList, SignalMissing, AreaLength, LogRecord}
-use Rattle.watcher.specs.declared.state.Refusal.the-variants.{LogTime, AlreadyClosed, NothingFed, BrokenState}
 use Rattle.watcher.specs.declared.state.Found.{Found}
 use Rattle.watcher.specs.declared.state.Found.the-variants as found
 use Rattle.watcher.specs.declared.state.Answer.{Answer}
@@ -25,8 +22,10 @@ use Rattle.watcher.specs.declared.state.End.the-variants as end
 use Rattle.watcher.specs.Numbers.{verdictValue, refusalNumber}
 use Rattle.watcher.specs.Runs.{decided}
 use Rattle.watcher.specs.Records.{timeOf}
-use Rattle.lines.specs.Text.{digits, decimal, wordText, verdictText, refusedLine, foundLine}
-use Rattle.lines.specs.Text.{toldLine, answerLine, closedLine, endText, endLine}
+use Rattle.watcher.specs.Machine.{MachineBytes}
+use Rattle.watcher.proofs.Numbers.{number-most}
+use Rattle.lines.specs.Text.{digits, decimal, space, newline, wordText, wordLine, refusedLine, foundLine}
+use Rattle.lines.specs.Text.{toldLine, answerLine, endText, endLine}
 use Rattle.lines.specs.Listing.{lineBytes}
 
 -- a number below 10^(d+1) has at most d + 1 digits
@@ -48,40 +47,29 @@ decimal-short : (d n : ℕ) → n < 10 ^ suc d → length (decimal n) ≤ suc d
 unfolding decimal
 decimal-short d n h = digits-short (n + 1) d n h
 
--- a word, a refusal's number, a time
+-- a word, and a time
 word-short : (w : Word) → length (wordText w) ≤ 7
 unfolding wordText
 word-short word.Kept = lit≤ tt
 word-short word.Broken = lit≤ tt
 word-short word.Pending = lit≤ tt
 
-number-short : (r : Refusal) → refusalNumber r < 100
-unfolding refusalNumber
-number-short RuleLength = lit< tt
-number-short RuleRecord = lit< tt
-number-short RuleTwins = lit< tt
-number-short RuleParameters = lit< tt
-number-short SignalList = lit< tt
-number-short SignalMissing = lit< tt
-number-short AreaLength = lit< tt
-number-short LogRecord = lit< tt
-number-short LogTime = lit< tt
-number-short AlreadyClosed = lit< tt
-number-short NothingFed = lit< tt
-number-short BrokenState = lit< tt
-
-time-short : (piece : List ℕ) → ((i : ℕ) → getD piece i 0 < 256) → length (decimal (timeOf piece)) ≤ 10
+time-short : (piece : List ℕ) → MachineBytes piece → length (decimal (timeOf piece)) ≤ 10
 unfolding timeOf
 time-short piece h = decimal-short 9 _ (lt-of-lt-of-le (little-lt piece 0 4 h) (lit≤ tt))
 
--- a refusal's line
+-- a word's line, and a refusal's
+told-short : (w : Word) → length (wordLine w) ≤ 8
+unfolding wordLine
+told-short w = omega (arith, length-append (wordText w) (newline ∷ []), word-short w)
+
 refused-short : (r : Refusal) → length (refusedLine r) ≤ 11
 unfolding refusedLine
 refused-short r =
     omega (
       arith,
-      length-append (decimal (refusalNumber r)) (10 ∷ []),
-      decimal-short 1 (refusalNumber r) (number-short r),
+      length-append (decimal (refusalNumber r)) (newline ∷ []),
+      decimal-short 1 (refusalNumber r) (omega (arith, number-most r)),
     )
 
 -- the lines
@@ -90,23 +78,21 @@ unfolding foundLine
 found-fits found.Fine = lit≤ tt
 found-fits (found.Refused r) = omega (arith, refused-short r)
 
-pub answer-fits : (piece : List ℕ) → ((i : ℕ) → getD piece i 0 < 256) → (a : Answer)
+pub answer-fits : (piece : List ℕ) → MachineBytes piece → (a : Answer)
     → length (answerLine (timeOf piece) a) ≤ lineBytes
 unfolding answerLine toldLine
 answer-fits piece h (answer.Accepted report) =
     omega (
       arith,
-      length-append (decimal (timeOf piece)) (32 ∷ (wordText (report .word) ++ (10 ∷ []))),
-      length-append (wordText (report .word)) (10 ∷ []),
+      length-append (decimal (timeOf piece)) (space ∷ wordLine (report .word)),
       time-short piece h,
-      word-short (report .word),
+      told-short (report .word),
     )
 answer-fits piece h (answer.Refused r) = omega (arith, refused-short r)
 
 end-short : (e : End) → length (endText e) ≤ 11
-unfolding endText closedLine verdictText
-end-short (end.Closed v) =
-    omega (arith, length-append (verdictText v) (10 ∷ []), word-short (decided (verdictValue v)))
+unfolding endText
+end-short (end.Closed v) = omega (arith, told-short (decided (verdictValue v)))
 end-short (end.Refused r) = refused-short r
 
 pub end-fits : (e : End) → length (endLine e) ≤ lineBytes

@@ -1,15 +1,12 @@
 -- The lines of the functions, called one after another, are the listing of the whole run.
 -- Assumes nothing.
-use mathlib.Core.Path.{_≡_, refl, sym, ap, ap₂, _∙_, subst}
+use mathlib.Core.Path.{_≡_, refl, ap, ap₂, _∙_}
 use mathlib.Core.Bool.{Bool, true, false, not, cond}
-use mathlib.Core.Logic.{⊎-elim}
 use mathlib.Core.List.{List, [], _∷_, _++_}
-use Prim.Native.Nat.{ℕ, zero, suc, _+_, min, _≤_, _<_}
+use Prim.Native.Nat.{ℕ, zero, suc, _+_, min, _≤_}
 use native.Mathlib.Omega.{arith}
-use lib.Dec.{lit<}
-use lib.ListN.{length, getD, take, drop, length-take, List·getD-eq-default}
-use lib.Seq.{take-all, take-at, getD-take, getD-drop}
-use Rattle.ground.proofs.Folds.{less-or-not}
+use lib.ListN.{length, take, drop}
+use lib.Seq.{take-all, take-at}
 use Rattle.watcher.specs.declared.state.Watcher.{Watcher}
 use Rattle.watcher.specs.declared.state.Started.{Started}
 use Rattle.watcher.specs.Limits.{logBytes}
@@ -18,32 +15,19 @@ use Rattle.watcher.specs.State.{isRefused}
 use Rattle.watcher.specs.Calls.{startOf, feedOf, closeOf}
 use Rattle.lines.specs.Text.{foundLine, answerLine, endLine}
 use Rattle.lines.specs.Lines.{placed, turned, startedLine, startLine, fedLine, feedLine, endedLine, closeLine}
+use Rattle.watcher.specs.Machine.{MachineBytes}
 use Rattle.watcher.specs.Runs.{piecesIn, pieces}
+use Rattle.watcher.proofs.Machines.{bytes-take, bytes-drop}
 use Rattle.lines.specs.Listing.{logLines, listingFrom, listingOn, lineBytes}
 use Rattle.lines.specs.Listing.{printedLog, printed}
 use Rattle.lines.proofs.Lengths.{found-fits, answer-fits, end-fits}
 
--- bytes, and pieces of bytes
-abbrev pub Bytes : List ℕ → Type 0
-Bytes s = (i : ℕ) → getD s i 0 < 256
-
+-- pieces of bytes
 abbrev AllBytes : List (List ℕ) → Type 0
 AllBytes [] = Unit {0}
-AllBytes (piece ∷ rest) = Bytes piece × AllBytes rest
+AllBytes (piece ∷ rest) = MachineBytes piece × AllBytes rest
 
-bytes-take : (n : ℕ) (s : List ℕ) → Bytes s → Bytes (take n s)
-bytes-take n s h i =
-    ⊎-elim (λ l. subst (λ x. x < 256) (sym (getD-take n s i 0 l)) (h i))
-    (λ l.
-    subst (λ x. x < 256)
-    (sym (List·getD-eq-default (take n s) 0 (let q : length (take n s) ≤ i = omega (arith, length-take n s) in q)))
-    (lit< tt))
-    (less-or-not i n)
-
-bytes-drop : (n : ℕ) (s : List ℕ) → Bytes s → Bytes (drop n s)
-bytes-drop n s h i = subst (λ x. x < 256) (sym (getD-drop n s i 0)) (h (n + i))
-
-pieces-bytes : (most : ℕ) (log : List ℕ) → Bytes log → AllBytes (piecesIn most log)
+pieces-bytes : (most : ℕ) (log : List ℕ) → MachineBytes log → AllBytes (piecesIn most log)
 unfolding piecesIn
 pieces-bytes zero log h = tt
 pieces-bytes (suc n) [] h = tt
@@ -70,7 +54,7 @@ module _ (out : List ℕ) (room : lineBytes ≤ length out) where
       (omega (arith, answer-fits piece (h .0) (feedOf w piece ws .0 .answer))))
       (log-printed (feedOf w piece ws .0 .next) (feedOf w piece ws .1) rest (h .1))
 
-  from-printed : (s : Started × List ℕ) (log : List ℕ) → Bytes log
+  from-printed : (s : Started × List ℕ) (log : List ℕ) → MachineBytes log
       → take (startedLine out s .0 .length) (startedLine out s .2)
       ++ cond (startedLine out s .0 .ready)
       (printedLog (startedLine out s .0 .next) (startedLine out s .1) out (pieces log)) []
@@ -88,7 +72,7 @@ module _ (out : List ℕ) (room : lineBytes ≤ length out) where
       go false = log-printed (s .0 .next) (s .1) (piecesIn (length log) log) (pieces-bytes (length log) log h)
 
   -- for any area, rule and signal list, and any log of bytes
-  pub printed-listing : (ws rule signals log : List ℕ) → Bytes log
+  pub printed-listing : (ws rule signals log : List ℕ) → MachineBytes log
       → printed ws out rule signals log ≡ listingOn ws rule signals log
   unfolding printed listingOn startLine
   printed-listing ws rule signals log h = from-printed (startOf rule signals ws) log h

@@ -5,7 +5,6 @@ use Prim.Native.Nat.{ℕ, zero, suc, _+_, _/_, _%_}
 use lib.Dec.{ltb}
 use Rattle.watcher.specs.declared.state.Word.{Word}
 use Rattle.watcher.specs.declared.state.Word.the-variants as word
-use Rattle.watcher.specs.declared.state.Verdict.{Verdict}
 use Rattle.watcher.specs.declared.state.Refusal.{Refusal}
 use Rattle.watcher.specs.declared.state.Found.{Found}
 use Rattle.watcher.specs.declared.state.Found.the-variants as found
@@ -31,10 +30,6 @@ wordText word.Kept = 107 ∷ 101 ∷ 112 ∷ 116 ∷ []
 wordText word.Broken = 98 ∷ 114 ∷ 111 ∷ 107 ∷ 101 ∷ 110 ∷ []
 wordText word.Pending = 112 ∷ 101 ∷ 110 ∷ 100 ∷ 105 ∷ 110 ∷ 103 ∷ []
 
--- a verdict is worded as the word that is decided so
-unfoldable pub verdictText : Verdict → List ℕ
-verdictText v = wordText (decided (verdictValue v))
-
 -- a space, and the end of a line
 abbrev pub space : ℕ
 space = 32
@@ -52,20 +47,21 @@ unfoldable pub foundLine : Found → List ℕ
 foundLine found.Fine = []
 foundLine (found.Refused r) = refusedLine r
 
+-- a word, and the end of its line
+unfoldable pub wordLine : Word → List ℕ
+wordLine w = wordText w ++ (newline ∷ [])
+
 -- a record's time, a space and the word; or its refusal
 unfoldable pub toldLine : (time : ℕ) → Word → List ℕ
-toldLine time w = decimal time ++ ((space ∷ []) ++ (wordText w ++ (newline ∷ [])))
+toldLine time w = decimal time ++ ((space ∷ []) ++ wordLine w)
 
 unfoldable pub answerLine : (time : ℕ) → Answer → List ℕ
 answerLine time (answer.Accepted report) = toldLine time (report .word)
 answerLine time (answer.Refused r) = refusedLine r
 
--- "end", a space and the verdict; or the refusal
-unfoldable pub closedLine : Verdict → List ℕ
-closedLine v = verdictText v ++ (newline ∷ [])
-
+-- "end", a space and the verdict, worded as the word that is decided so; or the refusal
 unfoldable pub endText : End → List ℕ
-endText (end.Closed v) = closedLine v
+endText (end.Closed v) = wordLine (decided (verdictValue v))
 endText (end.Refused r) = refusedLine r
 
 unfoldable pub endLine : End → List ℕ

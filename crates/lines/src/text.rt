@@ -3,13 +3,12 @@ use watcher::state::Answer;
 use watcher::state::End;
 use watcher::state::Found;
 use watcher::state::Refusal;
-use watcher::state::Verdict;
 use watcher::state::Word;
 ghost use mathlib.Core.Path.{_≡_};
 ghost use Prim.Native.Nat.{ℕ, _<_};
 ghost use Rattle.lines.specs.Lines.{putByte, putText};
-ghost use Rattle.lines.specs.Text.{digits, decimal, wordText, verdictText, refusedLine};
-ghost use Rattle.lines.specs.Text.{foundLine, toldLine, answerLine, closedLine, endText, endLine};
+ghost use Rattle.lines.specs.Text.{digits, decimal, wordText, wordLine, refusedLine};
+ghost use Rattle.lines.specs.Text.{foundLine, toldLine, answerLine, endText, endLine};
 
 // A byte.
 pub(crate) fn put(out: &mut [u8], at: usize, byte: u8) -> usize
@@ -62,14 +61,12 @@ fn put_word(out: &mut [u8], at: usize, word: Word) -> usize
     }
 }
 
-// A verdict.
-fn put_verdict(out: &mut [u8], at: usize, verdict: Verdict) -> usize
-    ensures { λ r. ⌜ (r, now (out .exit)) ≡ putText (at, now (out .entry)) (verdictText verdict) ⌝ }
+// A word, and the end of its line.
+fn put_word_line(out: &mut [u8], at: usize, word: Word) -> usize
+    ensures { λ r. ⌜ (r, now (out .exit)) ≡ putText (at, now (out .entry)) (wordLine word) ⌝ }
 {
-    match verdict {
-        Verdict::Kept => put_word(out, at, Word::Kept),
-        Verdict::Broken => put_word(out, at, Word::Broken),
-    }
+    let end = put_word(out, at, word);
+    put_text(out, end, b"\n")
 }
 
 // The line of a refusal.
@@ -97,8 +94,7 @@ fn put_told(out: &mut [u8], at: usize, time: u32, word: Word) -> usize
 {
     let space = put_number(out, at, time as usize);
     let told = put_text(out, space, b" ");
-    let end = put_word(out, told, word);
-    put_text(out, end, b"\n")
+    put_word_line(out, told, word)
 }
 
 // The line of a record.
@@ -114,20 +110,12 @@ pub(crate) fn put_answer(out: &mut [u8], at: usize, time: u32, answer: Answer) -
     }
 }
 
-// The line of a verdict.
-fn put_closed(out: &mut [u8], at: usize, verdict: Verdict) -> usize
-    ensures { λ r. ⌜ (r, now (out .exit)) ≡ putText (at, now (out .entry)) (closedLine verdict) ⌝ }
-{
-    let end = put_verdict(out, at, verdict);
-    put_text(out, end, b"\n")
-}
-
 // What stands behind "end ".
 fn put_ending(out: &mut [u8], at: usize, end: End) -> usize
     ensures { λ r. ⌜ (r, now (out .exit)) ≡ putText (at, now (out .entry)) (endText end) ⌝ }
 {
     match end {
-        End::Closed(verdict) => put_closed(out, at, verdict),
+        End::Closed(verdict) => put_word_line(out, at, verdict.word()),
         End::Refused(refusal) => put_refused(out, at, refusal),
     }
 }

@@ -1,8 +1,9 @@
 -- `text::put_ending` goes by the answer.
 -- Assumes nothing.
 use borrow.Author.Needs.{needs}
+use mathlib.Core.Path.{sym}
 use Rattle.watcher.specs.declared.state.End.the-variants.{Closed, Refused}
-use Rattle.lines.specs.Text.{endText}
+use Rattle.lines.specs.Text.{wordLine, endText}
 use Rattle.lines.proofs.Texts.{same-text}
 use Rattle.lines.proofs.text.put_ending.Statement.{statement}
 use Rattle.lines.proofs.text.put_ending.Tie as tie
@@ -10,8 +11,11 @@ use Rattle.lines.proofs.text.put_ending.Tie as tie
 enum-known-end : tie.Need-enum-known-end
 enum-known-end c = search needs
 
-put-closed-requires : tie.Need-put-closed-requires
-put-closed-requires c κs = search needs
+word-requires : tie.Need-word-requires
+word-requires c κs = search needs
+
+put-word-line-requires : tie.Need-put-word-line-requires
+put-word-line-requires c κs = search needs
 
 enum-known-end-2 : tie.Need-enum-known-end-2
 enum-known-end-2 c = search needs
@@ -26,8 +30,9 @@ returns : tie.Need-returns
 unfolding endText
 returns c =
     let call = c .before .before in
-    let case = call .before .before .before in
-    same-text endText _ (Closed _) _ _ (case .end .given .1) (call .put-closed .ensures)
+    let word = call .before in
+    same-text endText _ (Closed _) _ _ (word .before .before .before .end .given .1)
+    (same-text wordLine _ _ _ _ (sym (word .word .ensures)) (call .put-word-line .ensures))
 
 same-length-2 : tie.Need-same-length-2
 same-length-2 c = search needs
@@ -44,7 +49,8 @@ put-ending-spec =
     tie.close
     (tie.spec
     enum-known-end
-    put-closed-requires
+    word-requires
+    put-word-line-requires
     enum-known-end-2
     put-refused-requires
     same-length

@@ -15,14 +15,8 @@ slice-aggregate-put-text c = search needs
 put-text-requires : tie.Need-put-text-requires
 put-text-requires c κs = search needs
 
-put-word-requires : tie.Need-put-word-requires
-put-word-requires c κs = search needs
-
-slice-aggregate-put-text-2 : tie.Need-slice-aggregate-put-text-2
-slice-aggregate-put-text-2 c = search needs
-
-put-text-requires-2 : tie.Need-put-text-requires-2
-put-text-requires-2 c κs = search needs
+put-word-line-requires : tie.Need-put-word-line-requires
+put-word-line-requires c κs = search needs
 
 same-length : tie.Need-same-length
 same-length c = search needs
@@ -30,11 +24,10 @@ same-length c = search needs
 returns : tie.Need-returns
 unfolding toldLine
 returns c =
-    let told = c .before .before .before .before .before .before .before in
-    let number = told .before .before .before .before .before .before .before .before .before in
-    text-then _ _ _ _ _ (number .put-number .ensures)
-    (text-then _ _ _ _ _ (told .before .before .before .before .put-text .ensures)
-    (text-then _ _ _ _ _ (told .put-word .ensures) (c .before .before .put-text2 .ensures)))
+    let word = c .before .before in
+    let space = word .before .before .before .before in
+    text-then _ _ _ _ _ (space .before .before .before .before .before .put-number .ensures)
+    (text-then _ _ _ _ _ (space .put-text .ensures) (word .put-word-line .ensures))
 
 pub put-told-spec : {M : Type 1} → statement M
 put-told-spec =
@@ -43,8 +36,6 @@ put-told-spec =
     put-number-requires
     slice-aggregate-put-text
     put-text-requires
-    put-word-requires
-    slice-aggregate-put-text-2
-    put-text-requires-2
+    put-word-line-requires
     same-length
     returns)
