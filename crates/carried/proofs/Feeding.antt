@@ -6,7 +6,7 @@ use mathlib.Core.List.{List, [], _∷_, _++_, map, map-append}
 use Prim.Native.Nat.{ℕ, zero, suc, _+_, _-_, _<_}
 use native.Mathlib.Numerals.{add-one}
 use native.Mathlib.Omega.{arith}
-use lib.ListN.{length, getD, take, drop}
+use lib.ListN.{length, getD, take, drop, length-take, length-drop}
 use lib.Seq.{getD-drop, take-suc}
 use Rattle.meaning.specs.Rule.{Entry}
 use Rattle.watcher.specs.Limits.{logBytes}
@@ -75,14 +75,25 @@ calls-later ps k j h l =
     ∙ map-append feeding (take k ps) (getD ps k [] ∷ take (j - suc k) (drop (suc k) ps))
 
 -- bytes: a part of them, and what is behind it
+take-small : (n : ℕ) (log : List ℕ) → ((i : ℕ) → getD log i 0 < 256) → (i : ℕ) → getD (take n log) i 0 < 256
+take-small zero log m i = omega arith
+take-small (suc n) [] m i = omega arith
+take-small (suc n) (b ∷ log) m zero = m zero
+take-small (suc n) (b ∷ log) m (suc i) = take-small n log (λ j. m (suc j)) i
+
 take-bytes : (n : ℕ) (log : List ℕ) → MachineBytes log → MachineBytes (take n log)
-take-bytes zero log m i = omega arith
-take-bytes (suc n) [] m i = omega arith
-take-bytes (suc n) (b ∷ log) m zero = m zero
-take-bytes (suc n) (b ∷ log) m (suc i) = take-bytes n log (λ j. m (suc j)) i
+take-bytes n log m =
+    record { small = take-small n log (m .small); few = omega (arith, length-take n log, m .few) }
 
 drop-bytes : (n : ℕ) (log : List ℕ) → MachineBytes log → MachineBytes (drop n log)
-drop-bytes n log m i = subst (λ x. x < 256) (sym (getD-drop n log i 0)) (m (n + i))
+drop-bytes n log m =
+    record {
+      small = λ i. subst (λ x. x < 256) (sym (getD-drop n log i 0)) (m .small (n + i));
+      few = omega (arith, length-drop n log, m .few);
+    }
+
+none-bytes : MachineBytes []
+none-bytes = record { small = λ i. omega arith; few = omega arith }
 
 -- the pieces of bytes can be fed
 machine-in : (n : ℕ) (log : List ℕ) → MachineBytes log → MachineCalls (map feeding (piecesIn n log))
@@ -113,6 +124,6 @@ machine-drop (p ∷ ps) (suc k) m = machine-drop ps k (m .1)
 
 pub machine-at : (ps : List (List ℕ)) (k : ℕ) → MachineCalls (map feeding ps) → MachineBytes (getD ps k [])
 unfolding MachineCalls MachineCall
-machine-at [] k m i = omega arith
-machine-at (p ∷ ps) zero m i = m .0 i
-machine-at (p ∷ ps) (suc k) m i = machine-at ps k (m .1) i
+machine-at [] k m = none-bytes
+machine-at (p ∷ ps) zero m = m .0
+machine-at (p ∷ ps) (suc k) m = machine-at ps k (m .1)

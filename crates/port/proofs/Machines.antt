@@ -45,13 +45,13 @@ machine-in bytes h = go (ltb 3 (getD bytes phasePlace 0))
     go false =
         record {
           long-rule = length-tab listBytes (λ i. getD bytes (rulePlace + i) 0);
-          rule = bytes-tab listBytes (λ i. getD bytes (rulePlace + i) 0) (λ i. h (rulePlace + i));
+          rule = bytes-tab listBytes (λ i. getD bytes (rulePlace + i) 0) (omega arith) (λ i. h .small (rulePlace + i));
           long-list = length-tab listBytes (λ i. getD bytes (listPlace + i) 0);
-          list = bytes-tab listBytes (λ i. getD bytes (listPlace + i) 0) (λ i. h (listPlace + i));
-          records = little-lt bytes recordsPlace 8 h;
-          signals = little-lt bytes signalsPlace 8 h;
-          phase = phase-machine (getD bytes phasePlace 0) _ _ (little-lt bytes timePlace 4 h)
-              (little-lt bytes wordPlace 2 h);
+          list = bytes-tab listBytes (λ i. getD bytes (listPlace + i) 0) (omega arith) (λ i. h .small (listPlace + i));
+          records = little-lt bytes recordsPlace 8 (h .small);
+          signals = little-lt bytes signalsPlace 8 (h .small);
+          phase = phase-machine (getD bytes phasePlace 0) _ _ (little-lt bytes timePlace 4 (h .small))
+              (little-lt bytes wordPlace 2 (h .small));
         }
 
 -- a written state is bytes
@@ -84,9 +84,9 @@ number-byte records signals time word phase i h =
 pub written-bytes : (w : Watcher) → MachineState w → MachineBytes (written w)
 unfolding written byteAt
 written-bytes w s =
-    bytes-tab stateBytes (byteAt w)
+    bytes-tab stateBytes (byteAt w) (omega arith)
     (λ i.
-    either-byte (ltb i listPlace) _ _ (s .rule i)
-    (either-byte (ltb i recordsPlace) _ _ (s .list (i - listPlace))
+    either-byte (ltb i listPlace) _ _ (s .rule .small i)
+    (either-byte (ltb i recordsPlace) _ _ (s .list .small (i - listPlace))
     (number-byte (w .records) (w .signals) (timeIn (w .phase)) (signalsIn (w .phase)) (phaseNumber (w .phase)) i
     (phase-byte (w .phase)))))
