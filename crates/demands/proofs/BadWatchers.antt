@@ -6,8 +6,7 @@ use mathlib.Core.List.{List, []}
 use Prim.Native.Nat.{ℕ, _^_, _<_}
 use native.Mathlib.Omega.{arith}
 use lib.ListN.{getD}
-use Rattle.meaning.specs.Words.{broken}
-use Rattle.meaning.proofs.Theorems.{wordOf}
+use Rattle.meaning.specs.Words.{broken, wordOf}
 use Rattle.watcher.specs.declared.state.Word as said
 use Rattle.watcher.specs.declared.state.Word.the-variants as told
 use Rattle.watcher.specs.declared.state.Verdict.the-variants as verdict

@@ -7,8 +7,7 @@ use Prim.Native.Nat.{ℕ, _≤_, _<_}
 use lib.ListN.{length}
 use Rattle.ground.proofs.Tabs.{length-tab, getD-tab, getD-tab-out}
 use Rattle.meaning.specs.Rule.{fixed, nodeAt}
-use Rattle.rewriting.specs.Decode.{byteOf, nodeIn, ruleIn}
-use Rattle.rewriting.specs.Steps.{nodeFor, recordIn}
+use Rattle.rewriting.specs.Decode.{byteOf, nodeIn, ruleIn, nodeFor, recordIn}
 use Rattle.rewriting.specs.declared.step.Record.{Record}
 
 module _ (list : List ℕ) (n : ℕ) where

@@ -10,11 +10,9 @@ use Rattle.meaning.specs.Words.{start, valueIfLast}
 use Rattle.rewriting.specs.declared.step.Record.{Record}
 use Rattle.rewriting.specs.declared.step.Plan.{Plan}
 use Rattle.rewriting.specs.declared.step.Moment.{Moment}
-use Rattle.rewriting.specs.Decode.{byteOf, nodeIn, ruleIn}
+use Rattle.rewriting.specs.Decode.{byteOf, recordIn, nodeIn, ruleIn}
 use Rattle.rewriting.specs.Known.{areaOf}
-use Rattle.rewriting.specs.Plans.{ruleFor, readIn, leftWith, fedWith, closedWith}
-use Rattle.rewriting.specs.Steps.{recordIn}
-use Rattle.rewriting.specs.Walks.{tableWith}
+use Rattle.rewriting.specs.Plans.{tableWith, ruleFor, readIn, leftWith, fedWith, closedWith}
 
 -- byte i of record k
 abbrev pub ByteOfClause : (list : List ℕ) (k i : ℕ) → ℕ → Type 0

@@ -25,7 +25,7 @@ use Rattle.watcher.specs.Limits.{mostParameters, listBytes}
 use Rattle.watcher.specs.Numbers.{stageOf}
 use Rattle.watcher.specs.State.{ruleOf, parametersOf, startRefuses, notZerosBehind, signalsAbove, bitsAbove}
 use Rattle.watcher.specs.State.{notZeroFrom, wrongRows, wrongInPhase, brokenState}
-use Rattle.watcher.specs.Shapes.{Fitting}
+use Rattle.watcher.specs.inside.Shapes.{Fitting}
 use Rattle.watcher.proofs.HeldLaws.{held-some, held-most, held-kinds, held-few}
 
 -- the bits of a running signal word, by the phase

@@ -7,8 +7,8 @@ use lib.ListN.{length}
 use borrow.Author.Needs.{needs}
 use Rattle.forms.specs.Area.{putRows}
 use Rattle.meaning.specs.Rule.{firstOf}
-use Rattle.rewriting.specs.Plans.{ruleFor}
-use Rattle.rewriting.specs.Walks.{formRow, derivedFor}
+use Rattle.rewriting.specs.Plans.{ruleFor, formRow}
+use Rattle.rewriting.specs.inside.Walks.{derivedFor}
 use Rattle.rewriting.proofs.Counting.{firstOf-rule}
 use Rattle.rewriting.proofs.Walking.{block-fits, step-ready, derived-block, walked-all}
 use Rattle.rewriting.proofs.Written.{wrote-none}

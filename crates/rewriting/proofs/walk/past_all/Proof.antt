@@ -9,8 +9,8 @@ use borrow.Author.Needs.{needs}
 use Rattle.forms.specs.Form.{Form}
 use Rattle.forms.specs.Area.{putRows, Holds}
 use Rattle.meaning.specs.Rule.{firstOf}
-use Rattle.rewriting.specs.Plans.{ruleFor}
-use Rattle.rewriting.specs.Walks.{formRow, pastFor}
+use Rattle.rewriting.specs.Plans.{ruleFor, formRow}
+use Rattle.rewriting.specs.inside.Walks.{pastFor}
 use Rattle.rewriting.proofs.Counting.{firstOf-rule}
 use Rattle.rewriting.proofs.Walking.{block-fits, step-ready, past-block, walked-all}
 use Rattle.rewriting.proofs.Written.{wrote-none}
