@@ -3,7 +3,7 @@
 use mathlib.Core.Path.{_≡_}
 use mathlib.Core.Bool.{Bool}
 use mathlib.Core.List.{List, []}
-use Prim.Native.Nat.{ℕ, _≤_}
+use Prim.Native.Nat.{ℕ, _≤_, min}
 use Rattle.ground.specs.Bits.{bit}
 use Rattle.meaning.specs.Rule.{count, parameters}
 use Rattle.meaning.specs.Words.{start, valueIfLast}
@@ -22,9 +22,9 @@ ByteOfClause list k i o = o ≡ byteOf list k i
 abbrev pub CountAtClause : (list : List ℕ) (k : ℕ) → ℕ → Type 0
 CountAtClause list k o = (o ≡ count (nodeIn list k)) × (o ≤ 256)
 
--- how many parameters the first n records have
+-- how many parameters the first n records have; of more than 64 the first 64 count
 abbrev pub ParametersInClause : (list : List ℕ) (n : ℕ) → ℕ → Type 0
-ParametersInClause list n o = o ≡ parameters (ruleIn list n)
+ParametersInClause list n o = o ≡ parameters (ruleIn list (min n 64))
 
 -- record k
 abbrev pub RecordAtClause : (list : List ℕ) (k : ℕ) → Record → Type 0

@@ -40,7 +40,6 @@ pub(crate) fn step_at(
     here: Moment,
     neighbour: Neighbour,
 ) -> Step
-    requires { ⌜ k < 64 ⌝ }
     ensures { λ r. ⌜ Begins (now (list .entry)) k first m here neighbour r ⌝ }
 {
     let record = record_at(list, k);

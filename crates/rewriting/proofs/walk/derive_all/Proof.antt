@@ -30,10 +30,10 @@ unfolding firstOf
 loop-holds c = (search needs, search needs, refl, wrote-none _ _ _)
 
 step-at-requires : tie.Need-step-at-requires Inv-loop μ-loop
-step-at-requires c κs = omega (arith, c .before .before .before .before .before .pre .0 .most)
+step-at-requires c κs = search needs
 
 count-at-requires : tie.Need-count-at-requires Inv-loop μ-loop
-count-at-requires c κs = omega (arith, c .before .before .before .before .before .before .pre .0 .most)
+count-at-requires c κs = search needs
 
 add-derive-record : tie.Need-add-derive-record Inv-loop μ-loop
 add-derive-record c =
