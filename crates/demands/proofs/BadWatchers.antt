@@ -6,7 +6,7 @@ use mathlib.Core.List.{List, [], _∷_}
 use Prim.Native.Nat.{ℕ, _^_, _<_}
 use native.Mathlib.Omega.{arith}
 use lib.ListN.{getD}
-use Rattle.meaning.proofs.Theorems.{wordOf}
+use Rattle.meaning.specs.Words.{wordOf}
 use Rattle.watcher.specs.declared.state.Word as said
 use Rattle.watcher.specs.declared.state.Word.the-variants as word
 use Rattle.watcher.specs.declared.state.Found.{Found}

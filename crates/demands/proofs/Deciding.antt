@@ -10,7 +10,7 @@ use Rattle.meaning.specs.Rule.{Entry, timeAt, Rising, Climbs}
 use Rattle.meaning.specs.Meaning.{valueOf}
 use Rattle.meaning.specs.Horizon.{within, horizon}
 use Rattle.meaning.specs.Words as words
-use Rattle.meaning.proofs.Theorems.{wordOf}
+use Rattle.meaning.specs.Words.{wordOf}
 use Rattle.watcher.specs.declared.state.Word.{Word}
 use Rattle.watcher.specs.declared.state.Refusal.{Refusal}
 use Rattle.watcher.specs.declared.state.Answer.{Answer}

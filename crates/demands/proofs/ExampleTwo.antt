@@ -13,8 +13,8 @@ use Rattle.ground.proofs.Folds.{less-or-not}
 use Rattle.forms.specs.Form.{constant}
 use Rattle.meaning.specs.Rule.{Entry}
 use Rattle.meaning.specs.Meaning.{valueOf}
-use Rattle.meaning.specs.Words.{Known, Word, pending, broken, after, word}
-use Rattle.meaning.proofs.Theorems.{wordOf, word-constant}
+use Rattle.meaning.specs.Words.{Known, Word, pending, broken, after, word, wordOf}
+use Rattle.meaning.proofs.Theorems.{word-constant}
 use Rattle.rewriting.specs.Known.{formAt}
 use Rattle.rewriting.proofs.Placed.{read-remainder}
 use Rattle.watcher.specs.declared.state.Word as said

@@ -11,17 +11,13 @@ use lib.Dec.{leb, leb·zero, ltb}
 use lib.ListN.{length}
 use borrow.Author.Tests.{leb-true, le-leb, lt-leb, lt-ltb}
 use Rattle.ground.specs.Fold.{_⊕_, everyIn}
-use Rattle.meaning.specs.Interval.{Interval, between, onward, distance, inside}
+use Rattle.meaning.specs.Interval.{Interval, between, onward, distance, inside, Within}
 use Rattle.meaning.specs.Rule.{Entry, timeAt, Rising}
 use Rattle.meaning.specs.Meaning.{nextAt, untilAt, previousAt, sinceAt}
 use Rattle.meaning.proofs.Intervals.{distance-same, between-gives, between-made, distance-amid}
 use Rattle.meaning.proofs.Ranges.{everyIn-none, everyIn-first, everyIn-all}
 use Rattle.meaning.proofs.Ranges.{someIn-first, someIn-never, someIn-cong, someIn-factor}
 use Rattle.meaning.proofs.Waits.{waits-found, waits-made, waits-within, waits-or, waits-not, waits-and}
-
--- every gap inside the one interval is inside the other
-abbrev pub Within : Interval → Interval → Type 0
-Within v w = (here other : ℕ) → inside v here other ≡ true → inside w here other ≡ true
 
 pub within-between : (low high low′ high′ : ℕ) → low′ ≤ low → high ≤ high′
     → Within (between low high) (between low′ high′)

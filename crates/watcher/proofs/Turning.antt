@@ -41,7 +41,7 @@ use Rattle.watcher.specs.State.{ruleOf, parametersOf}
 use Rattle.watcher.specs.Calls.{freshState, zeroState, runningState, closedState, knownNext, knownNow}
 use Rattle.watcher.specs.Calls.{startRefusal, startWith, startOf, feedRefusal, feedWith, feedOf}
 use Rattle.watcher.specs.Calls.{closeRefusal, closeWith, closeOf}
-use Rattle.watcher.specs.Turns.{planOn, planOf, planIn, rewrittenOf, lastIn, endedState, begunOf}
+use Rattle.watcher.specs.inside.Turns.{planOn, planOf, planIn, rewrittenOf, lastIn, endedState, begunOf}
 use Rattle.watcher.proofs.TurnLaws.{words-twelve}
 
 -- the word of a form by which constant it is

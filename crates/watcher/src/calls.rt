@@ -34,7 +34,7 @@ ghost use Rattle.watcher.specs.Limits.{areaWords};
 ghost use Rattle.watcher.specs.Lists.{listsRefusal};
 ghost use Rattle.watcher.specs.Calls.{zeroState, freshState, runningState};
 ghost use Rattle.watcher.specs.Calls.{startWith, feedWith, closeWith};
-ghost use Rattle.watcher.specs.Turns.{Passed, endedState};
+ghost use Rattle.watcher.specs.inside.Turns.{Passed, endedState};
 ghost use Rattle.watcher.specs.Numbers.{verdictFor};
 ghost use Rattle.watcher.specs.Clauses.{StartClause, WouldRefuseClause, FeedClause, CloseClause, HorizonClause};
 

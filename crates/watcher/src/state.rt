@@ -1,4 +1,5 @@
 // The watcher's state, its limits, and its answers.
+use rewriting::rule::RECORD_BYTES;
 ghost use Rattle.watcher.specs.Clauses.{LimitsClause};
 
 // The word after a record.
@@ -111,7 +112,7 @@ impl Watcher {
 
     pub const PARAMETERS: usize = 12;
 
-    pub const RECORD_BYTES: usize = 8;
+    pub const RECORD_BYTES: usize = RECORD_BYTES;
 
     pub const LIST_BYTES: usize = 128;
 

@@ -23,7 +23,7 @@ ghost use Rattle.watcher.specs.Numbers.{saying, stageOf};
 ghost use Rattle.watcher.specs.Rules.{recordsOf};
 ghost use Rattle.watcher.specs.State.{ruleOf, parametersOf};
 ghost use Rattle.watcher.specs.Calls.{padded as paddedOf};
-ghost use Rattle.watcher.specs.Turns.{planOn, planOf, planIn, Passed, rewrittenOf, lastIn, begunOf};
+ghost use Rattle.watcher.specs.inside.Turns.{planOn, planOf, planIn, Passed, rewrittenOf, lastIn, begunOf};
 
 // A list with zeros behind it.
 pub(crate) fn padded(list: &[u8]) -> [u8; Watcher::LIST_BYTES]
