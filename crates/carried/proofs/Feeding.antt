@@ -12,7 +12,7 @@ use Rattle.meaning.specs.Rule.{Entry}
 use Rattle.watcher.specs.Limits.{logBytes}
 use Rattle.watcher.specs.Machine.{MachineBytes}
 use Rattle.watcher.specs.Runs.{Held, fedOne, answerTo, fedAll, piecesIn, pieces}
-use Rattle.watcher.proofs.Machines.{bytes-take, bytes-drop}
+use Rattle.watcher.proofs.Machines.{take-bytes, drop-bytes}
 use Rattle.demands.specs.Watching.{defined, feeding, told, handed, handedOn, MachineCall, MachineCalls}
 use Rattle.demands.specs.Logs.{accepts, logWith, going, further, furtherBy, logIn, courseOf, logOf}
 use Rattle.port.specs.Codes.{answerCode}
@@ -75,13 +75,17 @@ calls-later ps k j h l =
     ap (map feeding) (take-more ps k j h l)
     ∙ map-append feeding (take k ps) (getD ps k [] ∷ take (j - suc k) (drop (suc k) ps))
 
+-- no bytes
+none-bytes : MachineBytes []
+none-bytes = record { small = λ i. omega arith; few = omega arith }
+
 -- the pieces of bytes can be fed
 machine-in : (n : ℕ) (log : List ℕ) → MachineBytes log → MachineCalls (map feeding (piecesIn n log))
 unfolding piecesIn MachineCalls MachineCall
 machine-in zero log m = tt
 machine-in (suc n) [] m = tt
 machine-in (suc n) (b ∷ log) m =
-    (bytes-take logBytes (b ∷ log) m, machine-in n (drop logBytes (b ∷ log)) (bytes-drop logBytes (b ∷ log) m))
+    (take-bytes logBytes (b ∷ log) m, machine-in n (drop logBytes (b ∷ log)) (drop-bytes logBytes (b ∷ log) m))
 
 pub machine-pieces : (log : List ℕ) → MachineBytes log → MachineCalls (map feeding (pieces log))
 unfolding pieces
@@ -104,6 +108,6 @@ machine-drop (p ∷ ps) (suc k) m = machine-drop ps k (m .1)
 
 pub machine-at : (ps : List (List ℕ)) (k : ℕ) → MachineCalls (map feeding ps) → MachineBytes (getD ps k [])
 unfolding MachineCalls MachineCall
-machine-at [] k m i = omega arith
-machine-at (p ∷ ps) zero m i = m .0 i
-machine-at (p ∷ ps) (suc k) m i = machine-at ps k (m .1) i
+machine-at [] k m = none-bytes
+machine-at (p ∷ ps) zero m = m .0
+machine-at (p ∷ ps) (suc k) m = machine-at ps k (m .1)

@@ -2,4 +2,5 @@ pub mod Steps
 pub mod Calls
 pub mod Coding
 pub mod Feeding
+pub mod Refusing
 pub mod Runs

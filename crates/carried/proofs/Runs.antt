@@ -8,7 +8,7 @@ use native.Mathlib.Omega.{arith}
 use lib.ListN.{length, getD, take, drop}
 use lib.Seq.{take-all}
 use borrow.Author.Tests.{eq-eqb, ne-eqb}
-use Rattle.meaning.specs.Rule.{timeAt, Rising}
+use Rattle.meaning.specs.Rule.{timeAt, Climbs}
 use Rattle.meaning.specs.Meaning.{valueOf}
 use Rattle.watcher.specs.declared.state.Word.{Word}
 use Rattle.watcher.specs.declared.state.Answer.{Answer}
@@ -19,9 +19,10 @@ use Rattle.watcher.specs.Machine.{MachineBytes, MachineWords}
 use Rattle.watcher.specs.Runs.{Held, pieces, decided}
 use Rattle.demands.specs.Watching.{defined, Call, feeding, closing, told, ending, handed, handedOn, reached}
 use Rattle.demands.specs.Watching.{MachineCall, MachineCalls, Begun}
-use Rattle.demands.specs.Logs.{Course, going, further, furtherBy, courseOf, logOf}
+use Rattle.demands.specs.Logs.{Course, going, further, furtherBy, courseOf, lastTime, logOf}
 use Rattle.demands.specs.Rewritten.{readRule, heldIn}
 use Rattle.demands.specs.Demands.{Says, Demands, Decides}
+use Rattle.demands.specs.Demands as demanded-by
 use Rattle.demands.specs.OwnWork.{OwnWork}
 use Rattle.demands.proofs.Following.{defined-meets}
 use Rattle.demands.proofs.Demanded.{demanded}
@@ -29,8 +30,9 @@ use Rattle.demands.proofs.OwnWork.{own-work}
 use Rattle.demands.proofs.Logs.{further-parts}
 use Rattle.port.specs.Codes.{codesLength, wordCode, verdictCode, answerCode, asAnswer, endCode}
 use Rattle.port.specs.Whole.{codesFor, fedFrom, closedAfter, runFrom, runOf}
-use Rattle.carried.specs.Exporting.{Exports, Meets}
-use Rattle.carried.specs.Runs.{pieceAt, logTo, RunRefuses, RunReports, RunDecides, RunIsDemanded}
+use Rattle.carried.specs.Exporting.{Exports, MeetsExports}
+use Rattle.carried.specs.Runs.{pieceAt, logTo, RunRefuses, RunReports, RunIsDemanded}
+use Rattle.carried.specs.Runs.{RunDecides, DecidedBy}
 use Rattle.carried.proofs.Coding.{code-says, says-code, carries-code, carries-end, carries-found}
 use Rattle.carried.proofs.Feeding.{fed-handed, length-codes, code-at, feeds-go, calls-next, calls-later}
 use Rattle.carried.proofs.Feeding.{machine-pieces, machine-take, machine-drop, machine-at}
@@ -78,7 +80,7 @@ module _ (rule signals log ws codes : List ℕ) (br : MachineBytes rule) (bs : M
             λ h n g.
             let c = demands .first .start rule signals ws br bs bw .refused n .1 g in
             let r = carries-found _ n c in
-            let s = demands .first .start-stays rule signals ws br bs bw n c in
+            let s = demands .first .start-zeros rule signals ws br bs bw n c in
             counted h
             ∙ ap (λ f. runFrom f (startOf rule signals ws) (pieces log) codes) (r .1)
             ∙ (λ i. (r .2 i, s .1 i, codes));
@@ -222,6 +224,13 @@ module _ (rule signals log ws codes : List ℕ) (br : MachineBytes rule) (bs : M
         ap (map feeding) (sym (take-all (length (pieces log)) (pieces log) (omega arith)))
         ∙ later-calls k (length (pieces log)) h h
 
+    -- past a horizon
+    settled : (h : ℕ) → demanded-by.DecidedBy defined rule signals ws h → DecidedBy signals log (outcome .2) h
+    settled h d k l w e past =
+        d (some k) (machine-some k) (pieceAt log k) (piece-bytes k) w (says-at k l w e)
+        (subst (λ calls. timeAt (logOf signals calls) 0 + h < timeOf (pieceAt log k)) (calls-next (pieces log) k l)
+        past)
+
     run-decides : RunDecides rule signals log outcome
     unfolding endCode asAnswer answerCode verdictCode
     run-decides =
@@ -229,7 +238,9 @@ module _ (rule signals log ws codes : List ℕ) (br : MachineBytes rule) (bs : M
           holds =
               λ k h b e more.
               subst
-              (λ calls. Rising (logOf signals calls ++ more) → valueOf (logOf signals calls ++ more) (readRule rule) ≡ b)
+              (λ calls.
+              Climbs (lastTime (logOf signals calls)) more
+              → valueOf (logOf signals calls ++ more) (readRule rule) ≡ b)
               (sym (calls-next (pieces log) k h))
               (demands .third .holds rule signals ws (some k) (pieceAt log k) b (decides-at k h b e) more);
           stays =
@@ -246,20 +257,15 @@ module _ (rule signals log ws codes : List ℕ) (br : MachineBytes rule) (bs : M
               ∙ demands .third .agrees rule signals ws (some k) (pieceAt log k) b (decides-at k h b e)
               (between k (length (pieces log))) (machine-between k (length (pieces log))) (logOf signals all)
               (ap (courseOf signals) (sym (all-calls k h)) ∙ feeds-go signals (pieces log)));
+          horizon = λ h limit. settled h (demands .third .horizon rule signals ws begun h limit);
           finite =
               λ limits.
-              let d = demands .third .finite rule signals ws begun limits in (
-                d .0,
-                d .1,
-                λ k h w e past.
-                    d .2 (some k) (machine-some k) (pieceAt log k) (piece-bytes k) w (says-at k h w e)
-                    (subst (λ calls. timeAt (logOf signals calls) 0 + d .0 < timeOf (pieceAt log k))
-                    (calls-next (pieces log) k h) past),
-              );
+              let d = demands .third .finite rule signals ws begun limits in
+              (d .0, d .1, settled (d .0) (d .2));
         }
 
 -- what the exports run is demanded
-module _ (f : Exports) (right : Meets f) where
+module _ (f : Exports) (right : MeetsExports f) where
   pub run-is-demanded : RunIsDemanded f
   unfolding defined
   run-is-demanded rule signals log ws codes r s l w c =

@@ -3,12 +3,13 @@ use mathlib.Core.Path.{_≡_}
 use mathlib.Core.List.{List, [], _∷_}
 use Prim.Native.Nat.{ℕ}
 use lib.ListN.{length}
-use Rattle.watcher.specs.declared.state.Watcher.{Watcher}
-use Rattle.watcher.specs.Calls.{startOf}
+use Rattle.watcher.specs.Calls.{startOf, feedRefusal, waitOf, zeroState}
 use Rattle.watcher.specs.Machine.{MachineBytes, MachineWords}
+use Rattle.watcher.specs.Runs.{Held}
 use Rattle.demands.specs.Watching.{defined, Call, feeding, closing, told, ending, reached, MachineCalls}
-use Rattle.port.specs.Layout.{stateBytes, stateIn}
-use Rattle.port.specs.Codes.{foundCode, answerCode, endCode}
+use Rattle.demands.specs.Tables.{startTable, feedTable, closeTable, Given}
+use Rattle.port.specs.Layout.{stateBytes, written, stateIn}
+use Rattle.port.specs.Codes.{stateLength, foundCode, answerCode, endCode, horizonCode}
 use Rattle.carried.specs.Exporting.{Exports}
 
 -- what a caller lends from call to call
@@ -33,26 +34,45 @@ module _ (f : Exports) where
       lentAll
       (record { bytes = f .start rule signals bytes ws .1; area = f .start rule signals bytes ws .2 }) calls
 
--- bytes hold a state: they are 280 bytes, and reading them gives it
-pub record Holds (bytes : List ℕ) (w : Watcher) : Type 0 where
-  pub long : length bytes ≡ stateBytes
-  pub small : MachineBytes bytes
-  pub state : stateIn bytes ≡ w
-
--- after start and any calls the lent bytes hold the watcher's state, the work area is its work area, and each code is
--- that of its answer; so what is demanded of the watcher holds of the exports
+-- after start and any calls the lent bytes are the watcher's state, written, the work area is its work area, and each
+-- code is that of its answer; so what is demanded of the watcher holds of the exports
 pub record Carried (f : Exports) (rule signals bytes ws : List ℕ) (calls : List Call) : Type 0 where
   pub started : f .start rule signals bytes ws .0 ≡ foundCode (startOf rule signals ws .0 .found)
-  pub bytes-hold : Holds (lentAfter f rule signals bytes ws calls .bytes) (reached defined rule signals ws calls .state)
+  pub bytes-are : lentAfter f rule signals bytes ws calls .bytes ≡ written (reached defined rule signals ws calls .state)
+  pub state-is : stateIn (lentAfter f rule signals bytes ws calls .bytes) ≡ reached defined rule signals ws calls .state
   pub area-is : lentAfter f rule signals bytes ws calls .area ≡ reached defined rule signals ws calls .area
+  pub refused : (piece : List ℕ) → MachineBytes piece
+      → let l : Lent = lentAfter f rule signals bytes ws calls in
+      let h : Held = reached defined rule signals ws calls in
+      f .refuses (l .bytes) piece (l .area) ≡ foundCode (feedRefusal (h .state) piece (h .area))
   pub fed : (piece : List ℕ) → MachineBytes piece
       → let l : Lent = lentAfter f rule signals bytes ws calls in
       f .feed (l .bytes) piece (l .area) .0 ≡ answerCode (told defined (reached defined rule signals ws calls) piece)
   pub closed : let l : Lent = lentAfter f rule signals bytes ws calls in
       f .close (l .bytes) (l .area) .0 ≡ endCode (ending defined (reached defined rule signals ws calls))
+  pub waits : f .horizon (lentAfter f rule signals bytes ws calls .bytes)
+      ≡ horizonCode (waitOf (reached defined rule signals ws calls .state))
 
 abbrev pub CallsAreCarried : Exports → Type 0
 CallsAreCarried f =
     (rule signals bytes ws : List ℕ) → MachineBytes rule → MachineBytes signals → MachineBytes bytes
     → length bytes ≡ stateBytes → MachineWords ws → (calls : List Call) → MachineCalls calls
     → Carried f rule signals bytes ws calls
+
+-- Demand 1 of the exports, whatever bytes are lent: another number of bytes is refused with 91, and a state in them by
+-- document 01's table; neither touches anything, but that a refused start leaves a state of zeros
+pub record ExportsRefuse (f : Exports) : Type 0 where
+  pub start-91 : (rule signals bytes ws : List ℕ) → MachineBytes rule → MachineBytes signals → MachineBytes bytes
+      → MachineWords ws → (length bytes ≡ stateBytes → ⊥) → f .start rule signals bytes ws ≡ (stateLength, bytes, ws)
+  pub feed-91 : (bytes piece ws : List ℕ) → MachineBytes bytes → MachineBytes piece → MachineWords ws
+      → (length bytes ≡ stateBytes → ⊥) → f .feed bytes piece ws ≡ (stateLength, bytes, ws)
+  pub close-91 : (bytes ws : List ℕ) → MachineBytes bytes → MachineWords ws → (length bytes ≡ stateBytes → ⊥)
+      → f .close bytes ws ≡ (stateLength, bytes, ws)
+  pub start : (rule signals bytes ws : List ℕ) → MachineBytes rule → MachineBytes signals → MachineBytes bytes
+      → MachineWords ws → length bytes ≡ stateBytes → (n : ℕ) → Given (startTable rule signals ws) n
+      → f .start rule signals bytes ws ≡ (n, written zeroState, ws)
+  pub feed : (bytes piece ws : List ℕ) → MachineBytes bytes → MachineBytes piece → MachineWords ws
+      → length bytes ≡ stateBytes → (n : ℕ) → Given (feedTable (stateIn bytes) piece ws) n
+      → f .feed bytes piece ws ≡ (n, bytes, ws)
+  pub close : (bytes ws : List ℕ) → MachineBytes bytes → MachineWords ws → length bytes ≡ stateBytes → (n : ℕ)
+      → Given (closeTable (stateIn bytes) ws) n → f .close bytes ws ≡ (n, bytes, ws)

@@ -4,9 +4,9 @@ use mathlib.Core.Bool.{Bool, true, false}
 use mathlib.Core.List.{List, [], _∷_, _++_, map}
 use Prim.Native.Nat.{ℕ, _+_, _<_}
 use lib.ListN.{length, getD, take}
-use Rattle.meaning.specs.Rule.{Entry, timeAt, Rising}
+use Rattle.meaning.specs.Rule.{Entry, timeAt, Climbs}
 use Rattle.meaning.specs.Meaning.{valueOf}
-use Rattle.meaning.specs.Horizon.{within, horizon, AllFinite}
+use Rattle.meaning.specs.Horizon.{within, horizon as horizonOf, AllFinite}
 use Rattle.watcher.specs.declared.state.Word.{Word}
 use Rattle.watcher.specs.Records.{wrongRecord, timeOf}
 use Rattle.watcher.specs.Numbers.{saying, verdictFor}
@@ -50,20 +50,25 @@ pub record RunReports (rule signals log : List ℕ) (o : ℕ × List ℕ × List
       × (o .1 ≡ heldClosed rule signals e es .area)
   pub empty : logAll signals log ≡ [] → (o .0 ≡ 11) × (o .1 ≡ heldAfter rule signals [] .area)
 
+-- a piece whose time is past the first accepted record's by more than h minutes has no code for pending
+abbrev pub DecidedBy : (signals log codes : List ℕ) → ℕ → Type 0
+DecidedBy signals log codes h =
+    (k : ℕ) → k < length (pieces log) → (w : Word) → getD codes k 0 ≡ wordCode w
+    → timeAt (logTo signals log (k + 1)) 0 + h < timeOf (pieceAt log k) → (b : Bool) × (w ≡ decided b)
+
 -- demand 3: a code for kept (broken) holds of every continuation with times that never fall, later codes of words and
 -- the code of the whole agree with it, and past the horizon a word is decided
 pub record RunDecides (rule signals log : List ℕ) (o : ℕ × List ℕ × List ℕ) : Type 0 where
   pub holds : (k : ℕ) → k < length (pieces log) → (b : Bool) → getD (o .2) k 0 ≡ wordCode (decided b)
-      → (more : List Entry) → Rising (logTo signals log (k + 1) ++ more)
+      → (more : List Entry) → Climbs (lastTime (logTo signals log (k + 1))) more
       → valueOf (logTo signals log (k + 1) ++ more) (readRule rule) ≡ b
   pub stays : (k j : ℕ) → k < j → j < length (pieces log) → (b : Bool) → getD (o .2) k 0 ≡ wordCode (decided b)
       → (w : Word) → getD (o .2) j 0 ≡ wordCode w → w ≡ decided b
   pub agrees : (k : ℕ) → k < length (pieces log) → (b : Bool) → getD (o .2) k 0 ≡ wordCode (decided b)
       → o .0 ≡ verdictCode (verdictFor b)
+  pub horizon : (h : ℕ) → horizonOf (readRule rule) ≡ within h → DecidedBy signals log (o .2) h
   pub finite : AllFinite (readRule rule)
-      → (h : ℕ) × (horizon (readRule rule) ≡ within h)
-      × ((k : ℕ) → k < length (pieces log) → (w : Word) → getD (o .2) k 0 ≡ wordCode w
-      → timeAt (logTo signals log (k + 1)) 0 + h < timeOf (pieceAt log k) → (b : Bool) × (w ≡ decided b))
+      → (h : ℕ) × (horizonOf (readRule rule) ≡ within h) × DecidedBy signals log (o .2) h
 
 abbrev pub RunIsDemanded : Exports → Type 0
 RunIsDemanded f =

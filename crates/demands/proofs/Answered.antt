@@ -26,7 +26,7 @@ use Rattle.demands.specs.Watching.{defined, feeding, told, ending}
 use Rattle.demands.specs.Logs.{accepts, logWith, going, further, furtherBy, courseOf, logIn}
 use Rattle.demands.specs.Rewritten.{readRule, parametersIn, heldAfter, heldIn, wordAfter}
 use Rattle.demands.specs.Tables.{Carries}
-use Rattle.demands.specs.Examples.{Row, says, winds, accepted, refused, waits, table, isFine, refusedWith, allIn}
+use Rattle.demands.specs.Examples.{Row, says, winds, accepted, refused, reads, waits, table, isFine, refusedWith, allIn}
 use Rattle.demands.specs.Examples.{valueWord, wordNumber, sameWords, horizonNumber, wordsFrom, wordsOf, seen}
 use Rattle.demands.specs.Examples.{allTaken, right, windRight, passes, GetWords, EndsWith, Run, WindRun, AllOf}
 use Rattle.demands.specs.Examples.{Answers, ruleSignal, signalRecord, windRecord, vents}
@@ -246,6 +246,7 @@ answered (refused rule number) e =
     let r = refused-one number (listsRefusal rule vents) e in
     subst (λ f. Carries f number)
     (sym (start-found rule vents ws ∙ start-refuses rule vents ws (r .0) (r .1))) (r .2)
+answered (reads signal bytes w) e = run-right ruleSignal signal (bytes ∷ []) (pending ∷ []) w e
 answered (waits rule h) e =
     λ ws l.
     let b = both (isFine (listsRefusal rule vents)) _ e in

@@ -1,40 +1,36 @@
--- No three functions that meet the clauses of start, feed and close are one of the four bad watchers: example 2 shows it.
+-- No three functions of which the demands hold are one of the four bad watchers: example 2 shows it.
 -- Assumes nothing.
 use mathlib.Core.Path.{_≡_, refl, sym, ap, _∙_, subst}
 use mathlib.Core.Bool.{Bool, true, false}
-use mathlib.Core.List.{List, []}
+use mathlib.Core.List.{List, [], _∷_}
 use Prim.Native.Nat.{ℕ, _^_, _<_}
 use native.Mathlib.Omega.{arith}
 use lib.ListN.{getD}
-use Rattle.meaning.specs.Words.{broken}
-use Rattle.meaning.proofs.Theorems.{wordOf}
+use Rattle.meaning.specs.Words.{wordOf}
 use Rattle.watcher.specs.declared.state.Word as said
-use Rattle.watcher.specs.declared.state.Word.the-variants as told
-use Rattle.watcher.specs.declared.state.Verdict.the-variants as verdict
+use Rattle.watcher.specs.declared.state.Word.the-variants as word
 use Rattle.watcher.specs.declared.state.Found.{Found}
 use Rattle.watcher.specs.declared.state.Found.the-variants.{Fine}
 use Rattle.watcher.specs.declared.state.Answer.{Answer}
 use Rattle.watcher.specs.declared.state.Answer.the-variants as answer
-use Rattle.watcher.specs.declared.state.End.{End}
-use Rattle.watcher.specs.declared.state.End.the-variants as end
 use Rattle.watcher.specs.declared.state.Started.{Started}
-use Rattle.watcher.specs.declared.state.Fed.{Fed}
-use Rattle.watcher.specs.declared.state.Ended.{Ended}
-use Rattle.watcher.specs.Numbers.{saying, verdictValue}
-use Rattle.watcher.specs.Calls.{startOf, feedOf, closeOf}
-use Rattle.watcher.specs.Runs.{Held}
-use Rattle.demands.specs.Watching.{Three, Meets, defined, handed}
-use Rattle.demands.specs.Logs.{going}
+use Rattle.watcher.specs.Rules.{recordsOf}
+use Rattle.watcher.specs.Records.{entryOf}
+use Rattle.watcher.specs.Numbers.{saying, verdictFor}
+use Rattle.watcher.specs.Calls.{startWith}
+use Rattle.watcher.specs.Runs.{Held, decided}
+use Rattle.demands.specs.Watching.{Three, Call, feeding, closing, told, handed, handedOn, reached, MachineCall}
+use Rattle.demands.specs.Watching.{MachineCalls, Begun}
+use Rattle.demands.specs.Logs.{logWith, courseOf}
 use Rattle.demands.specs.Rewritten.{heldIn}
-use Rattle.demands.specs.Demands.{Says}
+use Rattle.demands.specs.Demands.{Says, Demands, Decides}
 use Rattle.demands.specs.Tables.{foundIn, foundAt, Carries}
-use Rattle.demands.specs.Examples.{vents, EndsWith}
+use Rattle.demands.specs.Examples.{vents}
 use Rattle.demands.specs.BadWatchers.{RefusesStarts, RefusesRecords, RefusesClosing, StartsUntouched}
 use Rattle.demands.specs.BadWatchers.{FeedsUntouched, ClosesUntouched, NeverSaysBroken, NeverEndsBroken, OnlyNods}
-use Rattle.demands.proofs.Following.{MachineHeld}
-use Rattle.demands.proofs.ExampleTwo.{area, area-first, rule, two, begun, two-bytes, heldOne, held-one}
-use Rattle.demands.proofs.ExampleTwo.{says-two, heldTwo, held-two, ends-two, tells, tells-one, tells-two}
-use Rattle.demands.proofs.ExampleTwo.{tells-closed, runs, starts-alike}
+use Rattle.demands.proofs.ExampleTwo.{area, area-first, rule, one, two, rule-bytes, signal-bytes, area-words}
+use Rattle.demands.proofs.ExampleTwo.{one-bytes, two-bytes, none-holds, logOne, course-one, takes-two, word-two}
+use Rattle.demands.proofs.ExampleTwo.{course-two, course-closed, tells, tells-one, tells-two, tells-closed}
 
 -- what carries a number is no acceptance
 carries-not : (f : Found) (n : ℕ) → f ≡ Fine → Carries f n → ⊥
@@ -46,16 +42,10 @@ unfolding Says foundIn
 says-fine (answer.Accepted report) w s = refl
 says-fine (answer.Refused r) w s = absurd s
 
-ends-broken-one : (e : End) → EndsWith e broken → e ≡ end.Closed verdict.Broken
-unfolding EndsWith verdictValue
-ends-broken-one (end.Closed verdict.Kept) s = let z : _≡_ {A = ℕ} 0 1 = cc in let n : ⊥ = omega arith in absurd n
-ends-broken-one (end.Closed verdict.Broken) s = refl
-ends-broken-one (end.Refused r) s = absurd s
-
-apart : told.Broken ≡ told.Pending → ⊥
+apart : word.Broken ≡ word.Pending → ⊥
 apart e = let z : _≡_ {A = ℕ} 0 1 = cc in omega arith
 
-decided-not : (b : Bool) → saying (wordOf b) ≡ told.Pending → ⊥
+decided-not : (b : Bool) → saying (wordOf b) ≡ word.Pending → ⊥
 unfolding saying wordOf
 decided-not true e = let z : _≡_ {A = ℕ} 0 1 = cc in omega arith
 decided-not false e = let z : _≡_ {A = ℕ} 0 1 = cc in omega arith
@@ -63,88 +53,129 @@ decided-not false e = let z : _≡_ {A = ℕ} 0 1 = cc in omega arith
 small : (x : ℕ) → x < 2 → x < 2 ^ 64
 small x h = omega arith
 
-module _ (f : Three) (right : Meets f) where
-  -- what f does in example 2 is what the definitions do
-  start-is : (x : ℕ) → x < 2 → f .start rule vents (area x) ≡ startOf rule vents (area x)
-  start-is x h =
-      let b = begun x (small x h) in
-      right .starts rule vents (area x) (b .rule-bytes) (b .signal-bytes) (b .words)
+-- the calls of example 2
+abbrev calls : List Call
+calls = feeding one ∷ []
 
-  feed-is : f .feed (heldOne .state) two (heldOne .area) ≡ feedOf (heldOne .state) two (heldOne .area)
-  feed-is = right .feeds (heldOne .state) two (heldOne .area) (held-one .0) two-bytes (held-one .1)
+called : MachineCalls calls
+unfolding MachineCalls MachineCall
+called = (one-bytes, tt)
 
-  close-is : (h : Held) → MachineHeld h → f .close (h .state) (h .area) ≡ closeOf (h .state) (h .area)
-  close-is h m = right .closes (h .state) (h .area) (m .0) (m .1)
+called-two : MachineCalls (feeding one ∷ feeding two ∷ [])
+unfolding MachineCalls MachineCall
+called-two = (one-bytes, (two-bytes, tt))
 
-  feed-says : Says (f .feed (heldOne .state) two (heldOne .area) .0 .answer) told.Broken
-  unfolding defined
-  feed-says = subst (λ (o : Fed × List ℕ). Says (o .0 .answer) told.Broken) (sym feed-is) says-two
+called-closed : MachineCalls (feeding one ∷ closing ∷ [])
+unfolding MachineCalls MachineCall
+called-closed = (one-bytes, (tt, tt))
 
-  close-ends : f .close (heldTwo .state) (heldTwo .area) .0 .answer ≡ end.Closed verdict.Broken
-  unfolding defined
-  close-ends =
-      ap (λ (o : Ended × List ℕ). o .0 .answer) (close-is heldTwo held-two) ∙ ends-broken-one _ ends-two
+module _ (f : Three) (d : Demands f) where
+  start-fine : (x : ℕ) → x < 2 → f .start rule vents (area x) .0 .found ≡ Fine
+  start-fine x h =
+      d .first .start rule vents (area x) rule-bytes signal-bytes (area-words x (small x h)) .fine .1 (none-holds x)
+
+  begun : Begun f rule vents (area 0)
+  begun =
+      record {
+        rule-bytes = rule-bytes;
+        signal-bytes = signal-bytes;
+        words = area-words 0 (small 0 (omega arith));
+        fine = start-fine 0 (omega arith);
+      }
+
+  -- what is held after calls
+  abbrev held : List Call → Held
+  held = reached f rule vents (area 0)
+
+  held-is : (calls : List Call) → MachineCalls calls → held calls ≡ heldIn rule vents (courseOf vents calls)
+  held-is = d .second .state rule vents (area 0) begun
+
+  says : Says (told f (held calls) two) word.Broken
+  says =
+      subst (Says (told f (held calls) two)) word-two
+      (d .second .word rule vents (area 0) begun calls called logOne course-one two two-bytes takes-two)
+
+  decides : Decides f rule vents (area 0) calls two false
+  unfolding decided
+  decides = record { begun = begun; called = called; fed = two-bytes; says = says }
 
   -- one that refuses everything: example 2 is started, fed and closed
   pub some-start : RefusesStarts f → ⊥
-  unfolding defined
   some-start all =
-      let b = begun 0 (small 0 (omega arith)) in
-      let r = all rule vents (area 0) (b .rule-bytes) (b .signal-bytes) (b .words) in
-      carries-not _ (r .0)
-      (ap (λ (o : Started × List ℕ). o .0 .found) (start-is 0 (omega arith)) ∙ b .fine) (r .1)
+      let r = all rule vents (area 0) rule-bytes signal-bytes (area-words 0 (small 0 (omega arith))) in
+      carries-not _ (r .0) (start-fine 0 (omega arith)) (r .1)
 
   pub some-record : RefusesRecords f → ⊥
   some-record all =
-      let r = all (heldOne .state) two (heldOne .area) (held-one .0) two-bytes (held-one .1) in
-      carries-not _ (r .0) (says-fine _ told.Broken feed-says) (r .1)
+      let r = all rule vents (area 0) begun calls called two two-bytes in
+      carries-not _ (r .0) (says-fine _ word.Broken says) (r .1)
 
   pub some-closing : RefusesClosing f → ⊥
   unfolding foundAt
   some-closing all =
-      let r = all (heldTwo .state) (heldTwo .area) (held-two .0) (held-two .1) in
-      carries-not _ (r .0) (ap foundAt close-ends) (r .1)
+      let r = all rule vents (area 0) begun calls called in
+      carries-not _ (r .0)
+      (ap foundAt
+      (d .second .reports rule vents (area 0) begun calls called (entryOf vents (recordsOf vents) one) [] course-one))
+      (r .1)
 
   -- one that says pending or kept always: example 2 gets broken at its second record, and at closing
   pub says-broken : NeverSaysBroken f → ⊥
-  says-broken never = never (heldOne .state) two (heldOne .area) (held-one .0) two-bytes (held-one .1) feed-says
+  says-broken never = never rule vents (area 0) begun calls called two two-bytes says
 
   pub ends-broken : NeverEndsBroken f → ⊥
-  ends-broken never = never (heldTwo .state) (heldTwo .area) (held-two .0) (held-two .1) close-ends
+  unfolding verdictFor MachineCalls
+  ends-broken never =
+      never rule vents (area 0) begun (feeding one ∷ feeding two ∷ []) called-two
+      (d .third .agrees rule vents (area 0) calls two false decides [] tt (logWith vents logOne two) course-two)
 
   -- one that never touches the area: two areas start alike
   pub touches-start : StartsUntouched f → ⊥
+  unfolding startWith
   touches-start never =
       let same : area 1 ≡ area 0 = begins 1 (omega arith) ∙ sym (begins 0 (omega arith)) in
       let z : _≡_ {A = ℕ} 1 0 = sym (area-first 1) ∙ ap (λ (ws : List ℕ). getD ws 0 0) same ∙ area-first 0 in
       omega arith
     where
-      begins : (x : ℕ) → x < 2 → area x ≡ heldIn rule vents (going []) .area
+      begins : (x : ℕ) → x < 2 → area x ≡ startWith Fine rule vents [] .1
       begins x h =
-          let b = begun x (small x h) in
-          sym (never rule vents (area x) (b .rule-bytes) (b .signal-bytes) (b .words))
-          ∙ ap (λ (o : Started × List ℕ). o .1) (start-is x h) ∙ starts-alike x (small x h)
+          sym (never rule vents (area x) rule-bytes signal-bytes (area-words x (small x h)))
+          ∙ ap (λ (o : Started × List ℕ). o .1)
+          (d .second .calls .start rule vents (area x) rule-bytes signal-bytes (area-words x (small x h))
+          (none-holds x))
 
-  -- feeding the second record of example 2 changes the area
-  touched : f .feed (heldOne .state) two (heldOne .area) .1 ≡ heldOne .area → ⊥
-  unfolding handed defined
+  -- the second record of example 2 changes the area
+  tells-before : tells (held calls .area) ≡ word.Pending
+  unfolding heldIn
+  tells-before =
+      ap (λ (h : Held). tells (h .area)) (held-is calls called ∙ ap (heldIn rule vents) course-one) ∙ tells-one
+
+  touched : handed f (held calls) (feeding two) .area ≡ held calls .area → ⊥
+  unfolding reached handedOn heldIn
   touched same =
       apart
-      (sym tells-two ∙ ap tells (sym (ap (λ (o : Fed × List ℕ). o .1) feed-is) ∙ same) ∙ tells-one)
+      (sym
+      (ap (λ (h : Held). tells (h .area))
+      (held-is (feeding one ∷ feeding two ∷ []) called-two ∙ ap (heldIn rule vents) course-two)
+      ∙ tells-two)
+      ∙ ap tells same ∙ tells-before)
 
   pub touches-feed : FeedsUntouched f → ⊥
-  touches-feed never = touched (never (heldOne .state) two (heldOne .area) (held-one .0) two-bytes (held-one .1))
+  touches-feed never = touched (never rule vents (area 0) begun calls called two two-bytes)
 
   -- one that rewrites at the first record and afterwards only nods
   pub not-only-nods : OnlyNods f → ⊥
   not-only-nods nods =
-      touched (nods (heldOne .state) two (heldOne .area) (held-one .0) two-bytes (held-one .1) _ _ runs)
+      touched
+      (nods rule vents (area 0) begun calls called (entryOf vents (recordsOf vents) one) [] course-one two two-bytes)
 
   -- closing after the first record changes the area too
   pub touches-close : ClosesUntouched f → ⊥
-  unfolding handed defined
+  unfolding reached handedOn heldIn
   touches-close never =
       decided-not (tells-closed .0)
-      (sym (tells-closed .1)
-      ∙ ap tells (sym (ap (λ (o : Ended × List ℕ). o .1) (close-is heldOne held-one))
-      ∙ never (heldOne .state) (heldOne .area) (held-one .0) (held-one .1)) ∙ tells-one)
+      (sym
+      (ap (λ (h : Held). tells (h .area))
+      (held-is (feeding one ∷ closing ∷ []) called-closed ∙ ap (heldIn rule vents) course-closed)
+      ∙ tells-closed .1)
+      ∙ ap tells (never rule vents (area 0) begun calls called) ∙ tells-before)

@@ -6,11 +6,11 @@ use mathlib.Core.List.{List, [], _∷_, _++_, append-assoc}
 use Prim.Native.Nat.{ℕ, _+_, _<_}
 use native.Mathlib.Omega.{arith}
 use lib.ListN.{length, length-append}
-use Rattle.meaning.specs.Rule.{Entry, timeAt, Rising}
+use Rattle.meaning.specs.Rule.{Entry, timeAt, Rising, Climbs}
 use Rattle.meaning.specs.Meaning.{valueOf}
 use Rattle.meaning.specs.Horizon.{within, horizon}
 use Rattle.meaning.specs.Words as words
-use Rattle.meaning.proofs.Theorems.{wordOf}
+use Rattle.meaning.specs.Words.{wordOf}
 use Rattle.watcher.specs.declared.state.Word.{Word}
 use Rattle.watcher.specs.declared.state.Refusal.{Refusal}
 use Rattle.watcher.specs.declared.state.Answer.{Answer}
@@ -29,7 +29,7 @@ use Rattle.demands.specs.Rewritten.{readRule, heldAfter, heldIn, wordAft
 use Rattle.demands.specs.Demands.{Says}
 use Rattle.demands.proofs.Judging.{Judged, taken, wrong, early, judge}
 use Rattle.demands.proofs.Logs.{Right, right-rising, right-none, right-all, further-parts}
-use Rattle.demands.proofs.Logs.{further-log, last-more}
+use Rattle.demands.proofs.Logs.{further-log, last-more, right-onward}
 use Rattle.demands.proofs.Values.{log-holds, log-stays, log-settled}
 use Rattle.demands.proofs.Courses.{ready-after, wrong-stays, early-stays, fed-turn, close-some}
 use Rattle.demands.proofs.Courses.{closed-stays}
@@ -148,11 +148,15 @@ module _ (rule signals : List ℕ) (fine : Accepted rule signals) where
       log-word = undecided (wordAfter rule log) b (t .word)
 
       -- a decided word holds of every continuation
-      pub told-holds : (more : List Entry) → Rising (logOf signals (calls ++ (feeding bytes ∷ [])) ++ more)
+      pub told-holds : (more : List Entry) → Climbs (lastTime (logOf signals (calls ++ (feeding bytes ∷ [])))) more
           → valueOf (logOf signals (calls ++ (feeding bytes ∷ [])) ++ more) (readRule rule) ≡ b
       told-holds more =
-          subst (λ x. Rising (x ++ more) → valueOf (x ++ more) (readRule rule) ≡ b) (sym (told-log (decided b) t))
-          (log-holds rule signals fine log (some-with signals (t .log) bytes) b log-word more)
+          subst (λ x. Climbs (lastTime x) more → valueOf (x ++ more) (readRule rule) ≡ b)
+          (sym (told-log (decided b) t))
+          (λ c.
+          log-holds rule signals fine log (some-with signals (t .log) bytes) b log-word more
+          (right-onward signals log more
+          (subst (Right signals) (told-log (decided b) t) (course-right (calls ++ (feeding bytes ∷ [])))) c))
 
       module _ (more : List Call) where
         -- what later calls make of the log

@@ -33,7 +33,7 @@ use Rattle.demands.specs.Watching.{MachineCalls, Begun}
 use Rattle.demands.specs.Logs.{logWith, going, courseOf, logIn}
 use Rattle.demands.specs.Rewritten.{heldIn, wordAfter}
 use Rattle.demands.specs.Tables.{startTable, feedTable, closeTable, foundIn, foundAt, Carries, AsTable}
-use Rattle.demands.specs.Demands.{Says, Demand1, ClosingReports, StateIsRewritten, WordIsRewritten, WindIsExact}
+use Rattle.demands.specs.Demands.{Says, Demand1, Rewrites, ClosingReports, StateIsRewritten, WordIsRewritten, WindIsExact}
 use Rattle.demands.specs.Demands.{WordHolds, WordStays, ClosingAgrees}
 use Rattle.demands.specs.Demands.{FiniteIsDecided, HorizonDecides, Demands}
 use Rattle.demands.proofs.OwnStates.{start-accepted}
@@ -46,7 +46,7 @@ use Rattle.demands.proofs.Deciding.{Told, word-told, word-taken, course
 use Rattle.demands.proofs.Deciding.{told-agrees, told-settled}
 
 -- demand 1 of the definitions
-start-tabled : (rule signals ws : List ℕ) → AsTable (startTable rule signals ws) (startRefusal rule signals ws)
+pub start-tabled : (rule signals ws : List ℕ) → AsTable (startTable rule signals ws) (startRefusal rule signals ws)
 unfolding startRefusal listTests refusalNumber
 start-tabled rule signals ws = as-table _
 
@@ -132,7 +132,7 @@ module _ (f : Three) (right : Meets f) where
             subst (AsTable (closeTable w ws))
             (sym (ap (λ (o : Ended × List ℕ). foundAt (o .0 .answer)) (right .closes w ws s b) ∙ close-found w ws))
             (close-tabled w ws);
-        start-stays =
+        start-zeros =
             λ rule signals ws r s b n.
             subst
             (λ (o : Started × List ℕ). Carries (o .0 .found) n → (o .0 .next ≡ zeroState) × (o .1 ≡ ws))
@@ -145,6 +145,24 @@ module _ (f : Three) (right : Meets f) where
             λ w ws s b n.
             subst (λ (o : Ended × List ℕ). Carries (foundAt (o .0 .answer)) n → (o .0 .next ≡ w) × (o .1 ≡ ws))
             (sym (right .closes w ws s b)) (close-leaves w ws n);
+      }
+
+  -- what is not refused is the definition's accepted case
+  rewrites : Rewrites f
+  unfolding startOf feedOf closeOf
+  rewrites =
+      record {
+        start =
+            λ rule signals ws r s b none.
+            right .starts rule signals ws r s b
+            ∙ ap (λ x. startWith x rule signals ws) (start-tabled rule signals ws .fine .1 none);
+        feed =
+            λ w bytes ws s p b none.
+            right .feeds w bytes ws s p b
+            ∙ ap (λ x. feedWith x w bytes ws) (feed-tabled w bytes ws .fine .1 none);
+        close =
+            λ w ws s b none.
+            right .closes w ws s b ∙ ap (λ x. closeWith x w ws) (close-tabled w ws .fine .1 none);
       }
 
   module _ (rule signals ws : List ℕ) where
@@ -227,6 +245,7 @@ module _ (f : Three) (right : Meets f) where
         first = first-demand;
         second =
             record {
+              calls = rewrites;
               reports = closing-reports;
               state = state-is-rewritten;
               word = word-is-rewritten;

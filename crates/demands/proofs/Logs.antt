@@ -7,12 +7,12 @@ use Prim.Native.Nat.{ℕ, _+_, _-_, _^_, _≤_, _<_}
 use native.Mathlib.Omega.{arith}
 use lib.ListN.{length, length-append}
 use lib.Seq.{getD-append-seam}
-use Rattle.meaning.specs.Rule.{Node, Entry, entryAt, timeAt, parameters, Rising}
+use Rattle.meaning.specs.Rule.{Node, Entry, entryAt, timeAt, parameters, Rising, Climbs}
 use Rattle.meaning.specs.Rewriting.{none, at, derivedRows}
 use Rattle.meaning.specs.Words.{Known, first, feed, fed, after}
 use Rattle.meaning.proofs.Blocks.{length-pastRows, firstOf-fits}
 use Rattle.meaning.proofs.Shapes.{first-shape, feed-shape}
-use Rattle.meaning.proofs.Settling.{Climbs, climbs-rising, last-after}
+use Rattle.meaning.proofs.Settling.{climbs-rising, last-after}
 use Rattle.watcher.specs.Rules.{recordsOf}
 use Rattle.watcher.specs.Records.{timeOf, entryOf}
 use Rattle.demands.specs.Watching.{Call, feeding, closing}
@@ -104,10 +104,13 @@ last-is [] = refl
 last-is (e ∷ es) =
     let q : length es ≡ length (e ∷ es) - 1 = omega arith in last-from e es ∙ ap (λ i. timeAt (e ∷ es) i) q
 
-climbs-more : (t : ℕ) (log : List Entry) (e : Entry) → Climbs t log → lastFrom t log ≤ e .time
-    → Climbs t (log ++ (e ∷ []))
-climbs-more t [] e c h = (h, tt)
-climbs-more t (d ∷ log) e c h = (c .0, climbs-more (d .time) log e (c .1) h)
+climbs-more : (t : ℕ) (log more : List Entry) → Climbs t log → Climbs (lastFrom t log) more → Climbs t (log ++ more)
+climbs-more t [] more c h = h
+climbs-more t (d ∷ log) more c h = (c .0, climbs-more (d .time) log more (c .1) h)
+
+climbs-all : (log : List Entry) → Climbs 0 log → Rising log
+climbs-all [] c = λ i j h l. let z : ⊥ = omega arith in absurd z
+climbs-all (e ∷ es) c = climbs-rising e es (c .1)
 
 -- a log as accepted records make it: signals stay within the list, and times never fall
 pub record Right (signals : List ℕ) (log : List Entry) : Type 0 where
@@ -115,8 +118,14 @@ pub record Right (signals : List ℕ) (log : List Entry) : Type 0 where
   pub climbs : Climbs 0 log
 
 pub right-rising : (signals : List ℕ) (log : List Entry) → Right signals log → Rising log
-right-rising signals [] r = λ i j h l. let z : ⊥ = omega arith in absurd z
-right-rising signals (e ∷ es) r = climbs-rising e es (r .climbs .1)
+right-rising signals log r = climbs-all log (r .climbs)
+
+-- and so do they with more records whose times go on from the last
+pub right-onward : (signals : List ℕ) (log more : List Entry) → Right signals log → Climbs (lastTime log) more
+    → Rising (log ++ more)
+right-onward signals log more r c =
+    climbs-all (log ++ more)
+    (climbs-more 0 log more (r .climbs) (subst (λ t. Climbs t more) (sym (last-is log)) c))
 
 pub right-none : (signals : List ℕ) → Right signals []
 right-none signals = record { below = tt; climbs = tt }
@@ -128,7 +137,7 @@ right-more signals log bytes r h =
     let e : Entry = entryOf signals (recordsOf signals) bytes in
     record {
       below = below-more (recordsOf signals) log (e ∷ []) (r .below) (entry-below signals (recordsOf signals) bytes, tt);
-      climbs = climbs-more 0 log e (r .climbs) (subst (λ t. t ≤ timeOf bytes) (sym (last-is log)) h);
+      climbs = climbs-more 0 log (e ∷ []) (r .climbs) (subst (λ t. t ≤ timeOf bytes) (sym (last-is log)) h, tt);
     }
 
 -- calls keep it so

@@ -18,9 +18,9 @@ use Rattle.forms.proofs.Packing.{fits-pack, pack-false}
 use Rattle.forms.proofs.Reading.{same-refl}
 use Rattle.meaning.specs.Rule.{Node, fixed, signal, both, either, next, until, previous, since}
 use Rattle.meaning.specs.Rule.{nodeAt, count, firstOf, Entry, holds}
-use Rattle.meaning.proofs.Looking.{Future}
+use Rattle.meaning.specs.Shape.{Future, FutureBefore, RowShape, Shaped}
 use Rattle.meaning.proofs.Blocks.{firstOf-more}
-use Rattle.meaning.proofs.Shapes.{FutureBefore, RowShape, Shaped, names-future}
+use Rattle.meaning.proofs.Shapes.{names-future}
 use Rattle.rewriting.specs.Known.{areaOf}
 use Rattle.rewriting.proofs.Placed.{row-past, row-remainder, row-areaOf}
 use Rattle.watcher.specs.Limits.{mostParameters}

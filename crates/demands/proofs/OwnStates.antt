@@ -10,7 +10,7 @@ use borrow.Author.Tests.{le-ltb, lt-leb, eq-eqb, eqb-true, not-false}
 use Rattle.forms.specs.Form.{Form}
 use Rattle.meaning.specs.Rule.{parameters}
 use Rattle.meaning.specs.Words.{Known}
-use Rattle.meaning.proofs.Shapes.{KnownShape}
+use Rattle.meaning.specs.Shape.{KnownShape}
 use Rattle.rewriting.specs.Known.{areaOf, pastIn}
 use Rattle.watcher.specs.declared.state.Watcher.{Watcher}
 use Rattle.watcher.specs.declared.state.Phase.{Phase}

@@ -7,6 +7,7 @@ use mathlib.Core.List.{List, [], _∷_, map}
 use Prim.Native.Nat.{ℕ}
 use native.Mathlib.Omega.{arith}
 use Rattle.watcher.specs.declared.state.Refusal.{Refusal}
+use Rattle.watcher.specs.declared.state.Found.{Found}
 use Rattle.watcher.specs.declared.state.Found.the-variants.{Fine, Refused}
 use Rattle.watcher.specs.Lists.{Test, firstRefusal}
 use Rattle.watcher.specs.Numbers.{refusalNumber}
@@ -59,6 +60,15 @@ unfolding firstRefusal NoneHolds
 all-fine [] e = refl
 all-fine (t ∷ ts) e = ap (λ b. cond b (Refused (t .gives)) (firstRefusal ts)) (e .0) ∙ all-fine ts (e .1)
 
+either-way : (f : Found) → (f ≡ Fine) ⊎ ((n : ℕ) × Carries f n)
+unfolding Carries
+either-way Fine = inl refl
+either-way (Refused r) = inr (refusalNumber r, refl)
+
 pub as-table : (ts : List Test) → AsTable (map lineOf ts) (firstRefusal ts)
 as-table ts =
-    record { refused = λ n. (given ts n, carried ts n); fine = (none-holds ts, all-fine ts) }
+    record {
+      answered = either-way (firstRefusal ts);
+      refused = λ n. (given ts n, carried ts n);
+      fine = (none-holds ts, all-fine ts);
+    }

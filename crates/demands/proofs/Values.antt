@@ -11,9 +11,9 @@ use Rattle.forms.proofs.Reading.{same-refl, same-not, constants-differ}
 use Rattle.meaning.specs.Rule.{Ordered, Entry, entryAt, timeAt, Rising}
 use Rattle.meaning.specs.Meaning.{valueOf}
 use Rattle.meaning.specs.Horizon.{within, horizon, AllFinite}
-use Rattle.meaning.specs.Words.{Known, first, feed, fed, close, valueIfLast, after, word}
+use Rattle.meaning.specs.Words.{Known, first, feed, fed, close, valueIfLast, after, word, wordOf}
 use Rattle.meaning.proofs.Blocks.{firstOf-fits}
-use Rattle.meaning.proofs.Theorems.{wordOf, close-value, word-decides, decided-stays}
+use Rattle.meaning.proofs.Theorems.{close-value, word-decides, decided-stays}
 use Rattle.meaning.proofs.Horizons.{finite-horizon}
 use Rattle.meaning.proofs.Settling.{settled-word}
 use Rattle.watcher.proofs.Decoded.{Accepted, accepted-ordered, accepted-some}

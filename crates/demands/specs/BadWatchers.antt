@@ -1,15 +1,15 @@
--- Watchers that must be caught (document 01, "What each statement has to settle"), each by what it does on everything
--- that a machine can hand in.
+-- Watchers that must be caught (document 01, "What each statement has to settle"): each by what it does at every start
+-- that a machine can make, or in every run.
 use mathlib.Core.Path.{_≡_}
-use mathlib.Core.List.{List}
+use mathlib.Core.List.{List, _∷_}
 use Prim.Native.Nat.{ℕ}
-use Rattle.watcher.specs.declared.state.Watcher.{Watcher}
-use Rattle.watcher.specs.declared.state.Phase.the-variants.{Running}
-use Rattle.watcher.specs.declared.state.Word.the-variants as told
+use Rattle.meaning.specs.Rule.{Entry}
+use Rattle.watcher.specs.declared.state.Word.the-variants as word
 use Rattle.watcher.specs.declared.state.Verdict.the-variants as verdict
 use Rattle.watcher.specs.declared.state.End.the-variants.{Closed}
-use Rattle.watcher.specs.Machine.{MachineBytes, MachineWords, MachineState}
-use Rattle.demands.specs.Watching.{Three}
+use Rattle.watcher.specs.Machine.{MachineBytes, MachineWords}
+use Rattle.demands.specs.Watching.{Three, Call, feeding, closing, told, ending, handed, reached, MachineCalls, Begun}
+use Rattle.demands.specs.Logs.{going, courseOf}
 use Rattle.demands.specs.Tables.{foundIn, foundAt, Carries}
 use Rattle.demands.specs.Demands.{Says}
 
@@ -21,13 +21,13 @@ RefusesStarts f =
 
 abbrev pub RefusesRecords : Three → Type 0
 RefusesRecords f =
-    (w : Watcher) (bytes ws : List ℕ) → MachineState w → MachineBytes bytes → MachineWords ws
-    → (n : ℕ) × Carries (foundIn (f .feed w bytes ws .0 .answer)) n
+    (rule signals ws : List ℕ) → Begun f rule signals ws → (calls : List Call) → MachineCalls calls → (bytes : List ℕ)
+    → MachineBytes bytes → (n : ℕ) × Carries (foundIn (told f (reached f rule signals ws calls) bytes)) n
 
 abbrev pub RefusesClosing : Three → Type 0
 RefusesClosing f =
-    (w : Watcher) (ws : List ℕ) → MachineState w → MachineWords ws
-    → (n : ℕ) × Carries (foundAt (f .close w ws .0 .answer)) n
+    (rule signals ws : List ℕ) → Begun f rule signals ws → (calls : List Call) → MachineCalls calls
+    → (n : ℕ) × Carries (foundAt (ending f (reached f rule signals ws calls))) n
 
 -- one that never touches the area: at no start, no record, no closing
 abbrev pub StartsUntouched : Three → Type 0
@@ -37,25 +37,29 @@ StartsUntouched f =
 
 abbrev pub FeedsUntouched : Three → Type 0
 FeedsUntouched f =
-    (w : Watcher) (bytes ws : List ℕ) → MachineState w → MachineBytes bytes → MachineWords ws
-    → f .feed w bytes ws .1 ≡ ws
+    (rule signals ws : List ℕ) → Begun f rule signals ws → (calls : List Call) → MachineCalls calls → (bytes : List ℕ)
+    → MachineBytes bytes
+    → handed f (reached f rule signals ws calls) (feeding bytes) .area ≡ reached f rule signals ws calls .area
 
 abbrev pub ClosesUntouched : Three → Type 0
-ClosesUntouched f = (w : Watcher) (ws : List ℕ) → MachineState w → MachineWords ws → f .close w ws .1 ≡ ws
+ClosesUntouched f =
+    (rule signals ws : List ℕ) → Begun f rule signals ws → (calls : List Call) → MachineCalls calls
+    → handed f (reached f rule signals ws calls) closing .area ≡ reached f rule signals ws calls .area
 
 -- one that says pending or kept always: no record gets the word broken, no closing the verdict broken
 abbrev pub NeverSaysBroken : Three → Type 0
 NeverSaysBroken f =
-    (w : Watcher) (bytes ws : List ℕ) → MachineState w → MachineBytes bytes → MachineWords ws
-    → Says (f .feed w bytes ws .0 .answer) told.Broken → ⊥
+    (rule signals ws : List ℕ) → Begun f rule signals ws → (calls : List Call) → MachineCalls calls → (bytes : List ℕ)
+    → MachineBytes bytes → Says (told f (reached f rule signals ws calls) bytes) word.Broken → ⊥
 
 abbrev pub NeverEndsBroken : Three → Type 0
 NeverEndsBroken f =
-    (w : Watcher) (ws : List ℕ) → MachineState w → MachineWords ws
-    → f .close w ws .0 .answer ≡ Closed verdict.Broken → ⊥
+    (rule signals ws : List ℕ) → Begun f rule signals ws → (calls : List Call) → MachineCalls calls
+    → ending f (reached f rule signals ws calls) ≡ Closed verdict.Broken → ⊥
 
--- one that rewrites at the first record and afterwards only nods: a running state's area is left as it is
+-- one that rewrites at the first record and afterwards only nods: later records leave the area
 abbrev pub OnlyNods : Three → Type 0
 OnlyNods f =
-    (w : Watcher) (bytes ws : List ℕ) → MachineState w → MachineBytes bytes → MachineWords ws → (time signals : ℕ)
-    → w .phase ≡ Running time signals → f .feed w bytes ws .1 ≡ ws
+    (rule signals ws : List ℕ) → Begun f rule signals ws → (calls : List Call) → MachineCalls calls
+    → (e : Entry) (es : List Entry) → courseOf signals calls ≡ going (e ∷ es) → (bytes : List ℕ) → MachineBytes bytes
+    → handed f (reached f rule signals ws calls) (feeding bytes) .area ≡ reached f rule signals ws calls .area

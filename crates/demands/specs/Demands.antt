@@ -5,7 +5,7 @@ use mathlib.Core.Bool.{Bool, true, not, cond}
 use mathlib.Core.List.{List, [], _∷_, _++_}
 use Prim.Native.Nat.{ℕ, _+_, _≤_, _<_}
 use lib.Dec.{eqb}
-use Rattle.meaning.specs.Rule.{Entry, holds, timeAt, Rising}
+use Rattle.meaning.specs.Rule.{Entry, holds, timeAt, Climbs}
 use Rattle.meaning.specs.Meaning.{valueOf}
 use Rattle.meaning.specs.Horizon.{within, horizon, AllFinite}
 use Rattle.rewriting.specs.Decode.{byteOf}
@@ -14,18 +14,20 @@ use Rattle.watcher.specs.declared.state.Word.{Word}
 use Rattle.watcher.specs.declared.state.Answer.{Answer}
 use Rattle.watcher.specs.declared.state.Answer.the-variants.{Accepted, Refused}
 use Rattle.watcher.specs.declared.state.End.the-variants.{Closed}
+use Rattle.watcher.specs.declared.state.Found.the-variants.{Fine}
 use Rattle.watcher.specs.Limits.{mostSignals}
 use Rattle.watcher.specs.Signals.{limitOf}
 use Rattle.watcher.specs.Records.{timeOf, entryOf}
 use Rattle.watcher.specs.Speed.{notSlower, perSecond, windSpeed}
 use Rattle.watcher.specs.Numbers.{saying, verdictFor}
-use Rattle.watcher.specs.Calls.{zeroState}
+use Rattle.watcher.specs.Calls.{zeroState, startWith, feedWith, closeWith}
 use Rattle.watcher.specs.Machine.{MachineBytes, MachineWords, MachineState}
 use Rattle.watcher.specs.Runs.{decided}
 use Rattle.demands.specs.Watching.{Three, Call, feeding, told, ending, reached, MachineCalls, Begun}
-use Rattle.demands.specs.Logs.{accepts, logWith, going, courseOf, logOf}
+use Rattle.demands.specs.Logs.{lastTime, accepts, logWith, going, courseOf, logOf}
 use Rattle.demands.specs.Rewritten.{readRule, heldIn, wordAfter}
-use Rattle.demands.specs.Tables.{startTable, feedTable, closeTable, foundIn, foundAt, Carries, AsTable}
+use Rattle.demands.specs.Tables.{startTable, feedTable, closeTable, NoneHolds, foundIn, foundAt, Carries}
+use Rattle.demands.specs.Tables.{AsTable}
 
 -- the record was accepted with this word
 unfoldable pub Says : Answer → Word → Type 0
@@ -41,7 +43,7 @@ pub record Demand1 (f : Three) : Type 0 where
       → AsTable (feedTable w bytes ws) (foundIn (f .feed w bytes ws .0 .answer))
   pub close : (w : Watcher) (ws : List ℕ) → MachineState w → MachineWords ws
       → AsTable (closeTable w ws) (foundAt (f .close w ws .0 .answer))
-  pub start-stays : (rule signals ws : List ℕ) → MachineBytes rule → MachineBytes signals → MachineWords ws → (n : ℕ)
+  pub start-zeros : (rule signals ws : List ℕ) → MachineBytes rule → MachineBytes signals → MachineWords ws → (n : ℕ)
       → Carries (f .start rule signals ws .0 .found) n
       → (f .start rule signals ws .0 .next ≡ zeroState) × (f .start rule signals ws .1 ≡ ws)
   pub feed-stays : (w : Watcher) (bytes ws : List ℕ) → MachineState w → MachineBytes bytes → MachineWords ws → (n : ℕ)
@@ -51,7 +53,17 @@ pub record Demand1 (f : Three) : Type 0 where
       → Carries (foundAt (f .close w ws .0 .answer)) n
       → (f .close w ws .0 .next ≡ w) × (f .close w ws .1 ≡ ws)
 
--- Demand 2, of a run: start accepted rule and signals, then come any calls, with state and work area handed on untouched.
+-- Demand 2, of every call that no test refuses, whatever state and area are handed in: answer, next state and the whole
+-- area are what the rewriting gives, as `crates/watcher/specs/Calls.antt` has it.
+pub record Rewrites (f : Three) : Type 0 where
+  pub start : (rule signals ws : List ℕ) → MachineBytes rule → MachineBytes signals → MachineWords ws
+      → NoneHolds (startTable rule signals ws) → f .start rule signals ws ≡ startWith Fine rule signals ws
+  pub feed : (w : Watcher) (bytes ws : List ℕ) → MachineState w → MachineBytes bytes → MachineWords ws
+      → NoneHolds (feedTable w bytes ws) → f .feed w bytes ws ≡ feedWith Fine w bytes ws
+  pub close : (w : Watcher) (ws : List ℕ) → MachineState w → MachineWords ws
+      → NoneHolds (closeTable w ws) → f .close w ws ≡ closeWith Fine w ws
+
+-- Of a run: start accepted rule and signals, then come any calls, with state and work area handed on untouched.
 module _ (f : Three) (rule signals ws : List ℕ) where
   -- closing the log reports the value that the rule has at its first record
   abbrev pub ClosingReports : Type 0
@@ -83,6 +95,7 @@ WindIsExact =
     cond (eqb (byteOf list n 1) 0) met (not met))
 
 pub record Demand2 (f : Three) : Type 0 where
+  pub calls : Rewrites f
   pub reports : (rule signals ws : List ℕ) → ClosingReports f rule signals ws
   pub state : (rule signals ws : List ℕ) → StateIsRewritten f rule signals ws
   pub word : (rule signals ws : List ℕ) → WordIsRewritten f rule signals ws
@@ -100,7 +113,7 @@ module _ (f : Three) (rule signals ws : List ℕ) where
   abbrev pub WordHolds : Type 0
   WordHolds =
       (calls : List Call) (bytes : List ℕ) (b : Bool) → Decides f rule signals ws calls bytes b → (more : List Entry)
-      → Rising (logOf signals (calls ++ (feeding bytes ∷ [])) ++ more)
+      → Climbs (lastTime (logOf signals (calls ++ (feeding bytes ∷ [])))) more
       → valueOf (logOf signals (calls ++ (feeding bytes ∷ [])) ++ more) (readRule rule) ≡ b
 
   -- no later record alters that word, whatever is called in between

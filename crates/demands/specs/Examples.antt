@@ -1,9 +1,9 @@
--- Document 01's starred examples, one to twelve, as one table over bytes; when a row of it passes by the definitions
--- alone, and what start, feed and close then answer.
+-- Document 01's starred examples, one to twelve, and a few more on channels, senses and horizons, as one table over bytes;
+-- when a row of it passes by the definitions alone, and what start, feed and close then answer.
 use mathlib.Core.Path.{_≡_}
 use mathlib.Core.Bool.{Bool, true, false, _&&_}
 use mathlib.Core.List.{List, [], _∷_, _++_, map}
-use Prim.Native.Nat.{ℕ, _+_, _/_, _%_}
+use Prim.Native.Nat.{ℕ, _+_, _-_, _/_, _%_}
 use lib.Dec.{eqb}
 use lib.ListN.{length}
 use Rattle.meaning.specs.Rule.{Node, Entry}
@@ -52,6 +52,12 @@ ruleSignal = ruleRecord 3 0 0 0 0
 abbrev pub ruleUnreached : List ℕ
 ruleUnreached = ruleRecord 3 0 0 0 0 ++ ruleRecord 6 0 0 0 255 ++ ruleRecord 3 1 0 0 0
 
+-- next, from 0 to 3, of both of two untils, from 0 to 2 and from 0 to 1
+abbrev pub ruleNested : List ℕ
+ruleNested =
+    ruleRecord 3 0 0 0 0 ++ ruleRecord 3 1 0 0 0 ++ ruleRecord 7 0 1 0 2 ++ ruleRecord 7 0 1 0 1
+    ++ ruleRecord 4 2 3 0 0 ++ ruleRecord 6 4 0 0 3
+
 -- signals 0 and 1: the lee vent is at least 1, the windward vent is at least 1
 abbrev pub vents : List ℕ
 vents = signalRecord 3 1 ++ signalRecord 4 1
@@ -72,15 +78,33 @@ abbrev pub windRecord : (unit wind : ℕ) → List ℕ
 windRecord unit wind =
     0 ∷ 0 ∷ 0 ∷ 0 ∷ 0 ∷ 0 ∷ wind % 256 ∷ wind / 256 ∷ 0 ∷ 0 ∷ 0 ∷ unit ∷ 0 ∷ 0 ∷ 0 ∷ 0 ∷ []
 
+-- the air temperature is at least, or below, a limit in 16 bits with a sign; it rains
+abbrev pub temperature : (sense limit : ℕ) → List ℕ
+temperature sense limit = 1 ∷ sense ∷ limit % 256 ∷ limit / 256 ∷ 0 ∷ 0 ∷ 0 ∷ 0 ∷ []
+
+abbrev pub raining : List ℕ
+raining = 5 ∷ 0 ∷ 1 ∷ 0 ∷ 0 ∷ 0 ∷ 0 ∷ 0 ∷ []
+
+-- a log record with a temperature in 16 bits, and with rain
+abbrev pub airRecord : (reading rain : ℕ) → List ℕ
+airRecord reading rain =
+    0 ∷ 0 ∷ 0 ∷ 0 ∷ reading % 256 ∷ reading / 256 ∷ 0 ∷ 0 ∷ 0 ∷ 0 ∷ rain ∷ 0 ∷ 0 ∷ 0 ∷ 0 ∷ 0 ∷ []
+
+-- a number below zero in 16 bits
+abbrev pub minus : ℕ → ℕ
+minus n = 65536 - n
+
 -- a rule and a log, the words after each record and at closing;
 -- a wind limit and a unit, with a wind that meets it and those that do not;
 -- a rule that is accepted, with its number of parameters, and one that is refused, with the refusal's number;
+-- a signal, a log record, and kept if it holds there;
 -- a rule and how long it can stay open
 pub data Row : Type 0 where
   says : (rule : List ℕ) → (log : List (List ℕ)) → (words : List Word) → (closing : Word) → Row
   winds : (limit unit : ℕ) → (meets : ℕ) → (fails : List ℕ) → Row
   accepted : (rule : List ℕ) → (parameters : ℕ) → Row
   refused : (rule : List ℕ) → (number : ℕ) → Row
+  reads : (signal bytes : List ℕ) → (holds : Word) → Row
   waits : (rule : List ℕ) → Horizon → Row
 
 unfoldable pub table : List Row
@@ -109,8 +133,14 @@ table =
     ∷ winds 120 metresASecond 120 (119 ∷ [])
     -- 12
     ∷ accepted (ruleA 9) 12 ∷ refused (ruleA 10) 4
-    -- how long rules A and B can stay open, and one in which what has no upper end is not reached
-    ∷ waits (ruleA 2) (within 2) ∷ waits ruleB never ∷ waits ruleUnreached (within 0)
+    -- a temperature of minus 1.0 degrees and one of minus 1.1, at least minus 1.0 and below it; rain
+    ∷ reads (temperature 0 (minus 10)) (airRecord (minus 10) 0) kept
+    ∷ reads (temperature 0 (minus 10)) (airRecord (minus 11) 0) broken
+    ∷ reads (temperature 1 (minus 10)) (airRecord (minus 10) 0) broken
+    ∷ reads (temperature 1 (minus 10)) (airRecord (minus 11) 0) kept
+    ∷ reads raining (airRecord 0 1) kept ∷ reads raining (airRecord 0 0) broken
+    -- how long rules A and B can stay open, one in which what has no upper end is not reached, and a nested one
+    ∷ waits (ruleA 2) (within 2) ∷ waits ruleB never ∷ waits ruleUnreached (within 0) ∷ waits ruleNested (within 5)
     ∷ []
 
 -- lists are accepted, or refused with a number
@@ -185,6 +215,7 @@ passes (winds limit unit meets fails) =
     windRight limit unit meets kept && allIn (λ wind. windRight limit unit wind broken) fails
 passes (accepted rule n) = isFine (listsRefusal rule vents) && eqb (parametersIn rule) n
 passes (refused rule number) = refusedWith number (listsRefusal rule vents)
+passes (reads signal bytes w) = right ruleSignal signal (bytes ∷ []) (pending ∷ []) w
 passes (waits rule h) =
     isFine (listsRefusal rule vents) && eqb (horizonNumber (horizon (readRule rule))) (horizonNumber h)
 
@@ -227,6 +258,8 @@ Answers (winds limit unit meets fails) =
 Answers (accepted rule n) =
     (parametersIn rule ≡ n) × ((ws : List ℕ) → length ws ≡ areaWords → startOf rule vents ws .0 .found ≡ Fine)
 Answers (refused rule number) = (ws : List ℕ) → Carries (startOf rule vents ws .0 .found) number
+Answers (reads signal bytes w) =
+    (ws : List ℕ) → length ws ≡ areaWords → Run ruleSignal signal (bytes ∷ []) (pending ∷ []) w ws
 Answers (waits rule h) =
     (ws : List ℕ) → length ws ≡ areaWords
     → (startOf rule vents ws .0 .found ≡ Fine) × (waitOf (startOf rule vents ws .0 .next) ≡ h)

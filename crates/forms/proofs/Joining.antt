@@ -20,7 +20,7 @@ use Rattle.ground.proofs.Bits.{bit-xor, bit-pow, one-shl}
 use Rattle.forms.specs.Form.{Form, and}
 use Rattle.forms.specs.Words.{bitOf, pack}
 use Rattle.forms.specs.Document.{conjunct}
-use Rattle.forms.specs.Steps.{Next}
+use Rattle.forms.specs.inside.Steps.{Next}
 use Rattle.forms.proofs.Document.{bitOf-high, and-document}
 use Rattle.forms.proofs.Packing.{room, bit-pack, pack-is}
 

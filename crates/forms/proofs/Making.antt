@@ -19,7 +19,7 @@ use Rattle.ground.proofs.Bits.{bit-xor}
 use Rattle.ground.proofs.Numbers.{zero-at, zero-words, zero-bit}
 use Rattle.forms.specs.Form.{Form, constant, parameter, xor, has}
 use Rattle.forms.specs.Words.{bitOf, pack}
-use Rattle.forms.specs.Steps.{Alone}
+use Rattle.forms.specs.inside.Steps.{Alone}
 use Rattle.forms.proofs.Values.{parameter-none}
 use Rattle.forms.proofs.Ring.{xor-form-false}
 use Rattle.forms.proofs.Terms.{has-false, has-low, has-high, by-halves}

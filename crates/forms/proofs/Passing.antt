@@ -23,7 +23,7 @@ use Rattle.ground.proofs.Bits.{bit-xor, bit-and, bit-shr, bit-shl, bit-low, bit
 use Rattle.ground.proofs.Numbers.{bit-minus, words-of}
 use Rattle.forms.specs.Form.{Form, constant, has, truth}
 use Rattle.forms.specs.Words.{most, pack}
-use Rattle.forms.specs.Steps.{Next, masks, passedBit, PassedWord, Passed}
+use Rattle.forms.specs.inside.Steps.{Next, masks, passedBit, PassedWord, Passed}
 use Rattle.forms.proofs.Document.{bitOf-low}
 use Rattle.forms.proofs.Truths.{pass, passes, has-pass, passes-truth, truth-false}
 use Rattle.forms.proofs.Packing.{bit-pack, pack-is, most-is, most-few, most-wide}

@@ -16,7 +16,7 @@ use Rattle.ground.proofs.Numbers.{words-of, bit-ones}
 use Rattle.forms.specs.Form.{constant, xor, putIn, truth, each}
 use Rattle.forms.specs.Words.{most, pack, ofTerms}
 use Rattle.forms.specs.Area.{rowAt}
-use Rattle.forms.specs.Steps.{Mixed, PutTerms}
+use Rattle.forms.specs.inside.Steps.{Mixed, PutTerms}
 use Rattle.forms.proofs.Areas.{row-at}
 use Rattle.forms.proofs.Values.{value-constant}
 use Rattle.forms.proofs.Terms.{has-false, has-ofTerms, terms-same}

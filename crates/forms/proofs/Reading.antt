@@ -22,7 +22,7 @@ use Rattle.ground.proofs.Numbers.{same-bits, ofBits-lt, bit-ofBits}
 use Rattle.forms.specs.Form.{Form, constant, parameter, xor, has, names, same}
 use Rattle.forms.specs.Words.{bitOf, pack, fits}
 use Rattle.forms.specs.Rows.{whichConstant}
-use Rattle.forms.specs.Steps.{Next, Only}
+use Rattle.forms.specs.inside.Steps.{Next, Only}
 use Rattle.forms.specs.declared.rows.Truth.the-variants.{True, False, Open}
 use Rattle.forms.proofs.Values.{pairs}
 use Rattle.forms.proofs.Document.{bitOf-low, bitOf-high}

@@ -11,7 +11,7 @@ use lib.Pow.{pow-lt, pow-pos}
 use borrow.Author.Tests.{eq-eqb, ne-eqb, eqb-true}
 use Rattle.ground.specs.Bits.{bit, bitAt}
 use Rattle.ground.proofs.Folds.{less-or-not}
-use Rattle.forms.specs.Steps.{Next, Only, Lone}
+use Rattle.forms.specs.inside.Steps.{Next, Only, Lone}
 use Rattle.ground.proofs.Bits.{bit-true, bit-false, bit-shr, bit-zero}
 use Rattle.forms.proofs.Packing.{term-room}
 

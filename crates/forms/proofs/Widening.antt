@@ -18,7 +18,7 @@ use Rattle.forms.specs.Form.{Form, constant, parameter, xor, putIn, seen
 use Rattle.forms.specs.Words.{most, pack, unpack, ofTerms}
 use Rattle.forms.specs.Area.{rowAt, putRows, formIn, Holds}
 use Rattle.forms.specs.Rows.{OfForm, WithRows}
-use Rattle.forms.specs.Steps.{Next, Lone, Tables, PutTerms, RowOf, onlyNamed, TableOf, TablesOf}
+use Rattle.forms.specs.inside.Steps.{Next, Lone, Tables, PutTerms, RowOf, onlyNamed, TableOf, TablesOf}
 use Rattle.forms.proofs.Values.{value-agree, value-putIn, canonical}
 use Rattle.forms.proofs.Depends.{putIn-constant, putIn-parameter, putIn-xor, putIn-same}
 use Rattle.forms.proofs.Depends.{depends-names, names-depends}

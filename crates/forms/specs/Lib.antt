@@ -3,5 +3,5 @@ pub mod Words
 pub mod Document
 pub mod Area
 pub mod Rows
-pub mod Steps
 pub mod Clauses
+pub mod inside

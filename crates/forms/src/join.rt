@@ -2,7 +2,7 @@
 use crate::scan::next_term;
 ghost use Prim.Native.Nat.{_<_};
 ghost use Rattle.ground.specs.Bits.{Words};
-ghost use Rattle.forms.specs.Steps.{Joined};
+ghost use Rattle.forms.specs.inside.Steps.{Joined};
 ghost use Rattle.forms.specs.Clauses.{AndClause};
 
 // Term i with each term of b, added to r: the union of the two is turned over.

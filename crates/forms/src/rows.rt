@@ -2,7 +2,7 @@
 use crate::join::and;
 use crate::scan::next_term;
 ghost use Prim.Native.Nat.{_<_};
-ghost use Rattle.forms.specs.Steps.{Alone};
+ghost use Rattle.forms.specs.inside.Steps.{Alone};
 ghost use Rattle.forms.specs.Clauses.{ConstantClause, ParameterClause, XorClause, OrClause};
 ghost use Rattle.forms.specs.Clauses.{WhichConstantClause, FitsClause, NamesClause};
 

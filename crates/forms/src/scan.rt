@@ -1,6 +1,6 @@
 // The terms of a row.
 ghost use Prim.Native.Nat.{_≤_};
-ghost use Rattle.forms.specs.Steps.{Next, Lone};
+ghost use Rattle.forms.specs.inside.Steps.{Next, Lone};
 
 // The first term of the row from `from` on and before `to`, or `to`.
 pub(crate) fn next_term(row: &[u64; 64], from: usize, to: usize) -> usize

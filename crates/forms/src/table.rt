@@ -10,7 +10,7 @@ ghost use Rattle.forms.specs.Form.{Form, truth};
 ghost use Rattle.forms.specs.Words.{most, pack};
 ghost use Rattle.forms.specs.Area.{rowAt};
 ghost use Rattle.forms.specs.Rows.{WithRows};
-ghost use Rattle.forms.specs.Steps.{PassedWord, Passed, Mixed, PutTerms, RowOf, TableOf, TablesOf};
+ghost use Rattle.forms.specs.inside.Steps.{PassedWord, Passed, Mixed, PutTerms, RowOf, TableOf, TablesOf};
 ghost use Rattle.forms.specs.Clauses.{PutInClause, ValueClause};
 
 // The bits of a word whose number lacks parameter p.

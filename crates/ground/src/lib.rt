@@ -1,2 +1,2 @@
-// The ground: laws on loops, lists, bits and bytes, and the few functions on words and bytes that all share.
+// The ground: laws on numbers, loops, lists, bits and bytes, and the few functions on bytes that all share.
 pub mod bytes;

@@ -7,7 +7,7 @@ use Prim.Native.Nat.{ℕ, zero, suc, _+_, _/_, _%_, _^_, _≤_, _<_}
 use native.Mathlib.Nat.{pow-succ', lt-of-lt-of-le}
 use native.Mathlib.Omega.{arith}
 use lib.Dec.{ltb, lit≤}
-use lib.ListN.{length, length-append}
+use lib.ListN.{length, getD, length-append}
 use borrow.Author.Tests.{ltb-false}
 use Rattle.ground.proofs.ByteLaws.{little-lt}
 use Rattle.watcher.specs.declared.state.Word.{Word}
@@ -22,7 +22,6 @@ use Rattle.watcher.specs.declared.state.End.the-variants as end
 use Rattle.watcher.specs.Numbers.{verdictValue, refusalNumber}
 use Rattle.watcher.specs.Runs.{decided}
 use Rattle.watcher.specs.Records.{timeOf}
-use Rattle.watcher.specs.Machine.{MachineBytes}
 use Rattle.watcher.proofs.Numbers.{number-most}
 use Rattle.lines.specs.Text.{digits, decimal, space, newline, wordText, wordLine, refusedLine, foundLine}
 use Rattle.lines.specs.Text.{toldLine, answerLine, endText, endLine}
@@ -54,7 +53,7 @@ word-short word.Kept = lit≤ tt
 word-short word.Broken = lit≤ tt
 word-short word.Pending = lit≤ tt
 
-time-short : (piece : List ℕ) → MachineBytes piece → length (decimal (timeOf piece)) ≤ 10
+time-short : (piece : List ℕ) → ((i : ℕ) → getD piece i 0 < 256) → length (decimal (timeOf piece)) ≤ 10
 unfolding timeOf
 time-short piece h = decimal-short 9 _ (lt-of-lt-of-le (little-lt piece 0 4 h) (lit≤ tt))
 
@@ -78,7 +77,7 @@ unfolding foundLine
 found-fits found.Fine = lit≤ tt
 found-fits (found.Refused r) = omega (arith, refused-short r)
 
-pub answer-fits : (piece : List ℕ) → MachineBytes piece → (a : Answer)
+pub answer-fits : (piece : List ℕ) → ((i : ℕ) → getD piece i 0 < 256) → (a : Answer)
     → length (answerLine (timeOf piece) a) ≤ lineBytes
 unfolding answerLine toldLine
 answer-fits piece h (answer.Accepted report) =

@@ -3,9 +3,9 @@
 use mathlib.Core.Path.{_≡_, refl, ap, ap₂, _∙_}
 use mathlib.Core.Bool.{Bool, true, false, not, cond}
 use mathlib.Core.List.{List, [], _∷_, _++_}
-use Prim.Native.Nat.{ℕ, zero, suc, _+_, min, _≤_}
+use Prim.Native.Nat.{ℕ, zero, suc, _+_, min, _≤_, _<_}
 use native.Mathlib.Omega.{arith}
-use lib.ListN.{length, take, drop}
+use lib.ListN.{length, getD, take, drop}
 use lib.Seq.{take-all, take-at}
 use Rattle.watcher.specs.declared.state.Watcher.{Watcher}
 use Rattle.watcher.specs.declared.state.Started.{Started}
@@ -15,24 +15,26 @@ use Rattle.watcher.specs.State.{isRefused}
 use Rattle.watcher.specs.Calls.{startOf, feedOf, closeOf}
 use Rattle.lines.specs.Text.{foundLine, answerLine, endLine}
 use Rattle.lines.specs.Lines.{placed, turned, startedLine, startLine, fedLine, feedLine, endedLine, closeLine}
-use Rattle.watcher.specs.Machine.{MachineBytes}
 use Rattle.watcher.specs.Runs.{piecesIn, pieces}
-use Rattle.watcher.proofs.Machines.{bytes-take, bytes-drop}
+use Rattle.watcher.proofs.Machines.{take-small, drop-small}
 use Rattle.lines.specs.Listing.{logLines, listingFrom, listingOn, lineBytes}
 use Rattle.lines.specs.Listing.{printedLog, printed}
 use Rattle.lines.proofs.Lengths.{found-fits, answer-fits, end-fits}
 
--- pieces of bytes
+-- bytes, and pieces of bytes
+abbrev pub Bytes : List ℕ → Type 0
+Bytes s = (i : ℕ) → getD s i 0 < 256
+
 abbrev AllBytes : List (List ℕ) → Type 0
 AllBytes [] = Unit {0}
-AllBytes (piece ∷ rest) = MachineBytes piece × AllBytes rest
+AllBytes (piece ∷ rest) = Bytes piece × AllBytes rest
 
-pieces-bytes : (most : ℕ) (log : List ℕ) → MachineBytes log → AllBytes (piecesIn most log)
+pieces-bytes : (most : ℕ) (log : List ℕ) → Bytes log → AllBytes (piecesIn most log)
 unfolding piecesIn
 pieces-bytes zero log h = tt
 pieces-bytes (suc n) [] h = tt
 pieces-bytes (suc n) (b ∷ log) h =
-    (bytes-take logBytes (b ∷ log) h, pieces-bytes n (drop logBytes (b ∷ log)) (bytes-drop logBytes (b ∷ log) h))
+    (take-small logBytes (b ∷ log) h, pieces-bytes n (drop logBytes (b ∷ log)) (drop-small logBytes (b ∷ log) h))
 
 -- a line that fits is read back whole
 read-back : (out text : List ℕ) → length text ≤ length out → take (placed out text .0) (placed out text .1) ≡ text
@@ -54,7 +56,7 @@ module _ (out : List ℕ) (room : lineBytes ≤ length out) where
       (omega (arith, answer-fits piece (h .0) (feedOf w piece ws .0 .answer))))
       (log-printed (feedOf w piece ws .0 .next) (feedOf w piece ws .1) rest (h .1))
 
-  from-printed : (s : Started × List ℕ) (log : List ℕ) → MachineBytes log
+  from-printed : (s : Started × List ℕ) (log : List ℕ) → Bytes log
       → take (startedLine out s .0 .length) (startedLine out s .2)
       ++ cond (startedLine out s .0 .ready)
       (printedLog (startedLine out s .0 .next) (startedLine out s .1) out (pieces log)) []
@@ -72,7 +74,7 @@ module _ (out : List ℕ) (room : lineBytes ≤ length out) where
       go false = log-printed (s .0 .next) (s .1) (piecesIn (length log) log) (pieces-bytes (length log) log h)
 
   -- for any area, rule and signal list, and any log of bytes
-  pub printed-listing : (ws rule signals log : List ℕ) → MachineBytes log
+  pub printed-listing : (ws rule signals log : List ℕ) → Bytes log
       → printed ws out rule signals log ≡ listingOn ws rule signals log
   unfolding printed listingOn startLine
   printed-listing ws rule signals log h = from-printed (startOf rule signals ws) log h

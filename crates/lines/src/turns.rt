@@ -3,11 +3,7 @@ use crate::text::put_answer;
 use crate::text::put_end;
 use crate::text::put_found;
 use watcher::readings::time_of;
-use watcher::state::Found;
 use watcher::state::Watcher;
-ghost use mathlib.Core.Path.{_≡_};
-ghost use mathlib.Core.Bool.{not};
-ghost use Rattle.watcher.specs.State.{isRefused};
 ghost use Rattle.lines.specs.Clauses.{LineBytesClause, StartLineClause, FeedLineClause, CloseLineClause};
 
 // Bytes that no line has more of.
@@ -33,16 +29,6 @@ pub fn line_bytes() -> usize
     LINE_BYTES
 }
 
-// Whether nothing is refused.
-fn is_fine(found: Found) -> bool
-    ensures { λ r. ⌜ r ≡ not (isRefused found) ⌝ }
-{
-    match found {
-        Found::Fine => true,
-        Found::Refused(_) => false,
-    }
-}
-
 // Start a watcher; the line is its refusal, if there is one.
 pub fn start_line(rule: &[u8], signals: &[u8], area: &mut [u64], out: &mut [u8]) -> Opened
     ensures { λ r. ⌜ StartLineClause (now (rule .entry)) (now (signals .entry)) (now (area .entry)) (now (out .entry))
@@ -54,7 +40,7 @@ pub fn start_line(rule: &[u8], signals: &[u8], area: &mut [u64], out: &mut [u8])
     let length = put_found(out, 0, found);
     Opened {
         next,
-        ready: is_fine(found),
+        ready: !found.is_refused(),
         length,
     }
 }

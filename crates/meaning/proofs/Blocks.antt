@@ -15,6 +15,7 @@ use Rattle.forms.specs.Form.{Form}
 use Rattle.meaning.specs.Rule.{Node, fixed, nodeAt, count, firstOf, parameters, shiftedNode, Entry}
 use Rattle.meaning.specs.Meaning.{meaning, values, parameterValues}
 use Rattle.meaning.specs.Rewriting.{Neighbour, formOf, formsOf, derivedRow, derivedRows, pastRow, pastRows}
+use Rattle.meaning.specs.Shape.{Place}
 
 module _ {A : Type 0} where
   -- what stands in a list still stands there with more after it
@@ -63,23 +64,16 @@ module _ (rule : List Node) where
           (λ x l e. omega (arith, firstOf-more x, none x l)) k (omega arith)
 
   -- the record and the shift of parameter q
-  pub record Place (k q : ℕ) : Type 0 where
-    pub node : ℕ
-    pub shift : ℕ
-    pub before : node < k
-    pub less : shift < count (nodeAt rule node)
-    pub here : firstOf rule node + shift ≡ q
-
-  unfoldable pub place-grows : (k l q : ℕ) → k ≤ l → Place k q → Place l q
+  unfoldable pub place-grows : (k l q : ℕ) → k ≤ l → Place rule k q → Place rule l q
   place-grows k l q h p =
       record { node = p .node; shift = p .shift; before = omega (arith, p .before); less = p .less; here = p .here }
 
-  pub place : (k q : ℕ) → q < firstOf rule k → Place k q
+  pub place : (k q : ℕ) → q < firstOf rule k → Place rule k q
   unfolding firstOf
   place zero q h = let z : ⊥ = omega arith in absurd z
   place (suc k) q h = go (decLt q (firstOf rule k)) (place k q)
     where
-      go : Dec (q < firstOf rule k) → (q < firstOf rule k → Place k q) → Place (suc k) q
+      go : Dec (q < firstOf rule k) → (q < firstOf rule k → Place rule k q) → Place rule (suc k) q
       go (yes l) r = place-grows k (suc k) q (omega arith) (r l)
       go (no l) r =
           record {

@@ -16,10 +16,11 @@ use Rattle.meaning.specs.Rule.{Ordered, count, firstOf, shiftedNode, Ent
 use Rattle.meaning.specs.Meaning.{nextAt, untilAt, meaning, values}
 use Rattle.meaning.specs.Rewriting.{Neighbour, none, at, put, onlyIf, formsOf, parameterTo, nextRow, untilLater}
 use Rattle.meaning.specs.Rewriting.{derivedRow, derivedRows}
+use Rattle.meaning.specs.Shape.{Future}
 use Rattle.meaning.proofs.Blocks.{rows-none, rows-more, length-derivedRows}
 use Rattle.meaning.proofs.Intervals.{movedTo, moved-cases}
 use Rattle.meaning.proofs.Unrolling.{until-last, until-step}
-use Rattle.meaning.proofs.Looking.{Future, reach, reach-future}
+use Rattle.meaning.proofs.Looking.{reach, reach-future}
 use Rattle.meaning.proofs.Agreement.{recordValue, Agrees, agrees-down, agrees-new, block-fits, forms-value}
 use Rattle.meaning.proofs.RowsRight.{RightRow, RightRows, from-reach, rows-agree, value-onlyIf, value-put}
 use Rattle.meaning.proofs.RowsRight.{put-value}

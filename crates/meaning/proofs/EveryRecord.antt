@@ -9,9 +9,10 @@ use Rattle.forms.specs.Form.{Form}
 use Rattle.meaning.specs.Rule.{Node, Ordered, firstOf, parameters, Entry}
 use Rattle.meaning.specs.Rewriting.{Neighbour, none, at, derivedRows, pastRows}
 use Rattle.meaning.specs.Words.{Known, leave, first, start, feed, close, after}
+use Rattle.meaning.specs.Shape.{KnownShape}
 use Rattle.meaning.specs.Whole.{PastEquations, DerivedEquations, FirstRecord, LaterRecord, End, EveryRecord}
 use Rattle.meaning.proofs.Blocks.{firstOf-fits, length-derivedRows, length-pastRows}
-use Rattle.meaning.proofs.Shapes.{KnownShape, after-shape}
+use Rattle.meaning.proofs.Shapes.{after-shape}
 use Rattle.meaning.proofs.Reach.{LooksBack, none-back, derived-back}
 use Rattle.meaning.proofs.Whole.{derived-whole, past-whole}
 

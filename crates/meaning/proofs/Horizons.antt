@@ -1,4 +1,4 @@
--- Horizons: how they order, which parameters end in time, and that finite upper ends give a rule one.
+-- Horizons: how they order, and that finite upper ends give a rule one.
 -- Assumes nothing.
 use mathlib.Core.Path.{_≡_, refl, sym, subst}
 use mathlib.Core.Bool.{Bool, true, false, cond}
@@ -12,16 +12,11 @@ use lib.ListN.{length, getD}
 use Rattle.meaning.specs.Interval.{Interval, between, onward, distance, inside, shifts, shifted, Moved, gone}
 use Rattle.meaning.specs.Interval.{to, moved}
 use Rattle.meaning.specs.Rule.{Node, fixed, signal, both, either, next, until, previous, since, nodeAt, Earlier}
-use Rattle.meaning.specs.Rule.{Ordered, count, firstOf, shiftedNode}
+use Rattle.meaning.specs.Rule.{Ordered}
 use Rattle.meaning.specs.Horizon.{Horizon, within, never, larger, later, horizonOf, horizons, horizon}
-use Rattle.meaning.specs.Horizon.{Bounded, Finite, AllFinite}
+use Rattle.meaning.specs.Horizon.{Ends, parameterHorizon, By, Bounded, Finite, AllFinite}
 use Rattle.meaning.proofs.Blocks.{block-low, length-one, one-new}
 use Rattle.meaning.proofs.Intervals.{between-gives}
-
--- from time t on, the horizon is over by time b
-abbrev pub Ends : Horizon → ℕ → ℕ → Type 0
-Ends (within h) t b = t + h ≤ b
-Ends never t b = ⊥
 
 pub ends-left : (x y : Horizon) (t b : ℕ) → Ends (larger x y) t b → Ends x t b
 unfolding larger
@@ -73,18 +68,6 @@ ends-moved P (between low high) n (within x) t u b h g p e = go (leb (n + distan
     go false q = g
 ends-moved P (between low high) n never t u b h g p e = absurd e
 ends-moved P (onward low) n x t u b h g p e = absurd e
-
--- the horizon of record k's parameter of shift n: the record's, with its interval shifted
-unfoldable pub parameterHorizon : List Node → ℕ → ℕ → Horizon
-parameterHorizon rule k n = horizonOf (horizons rule k) (shiftedNode (nodeAt rule k) n)
-
--- q is a parameter that from time t on is over by time b
-pub record By (rule : List Node) (t b q : ℕ) : Type 0 where
-  pub node : ℕ
-  pub shift : ℕ
-  pub less : shift < count (nodeAt rule node)
-  pub here : firstOf rule node + shift ≡ q
-  pub ends : Ends (parameterHorizon rule node shift) t b
 
 -- no parameter is over before time t
 pub by-none : (rule : List Node) (t b q : ℕ) → b < t → By rule t b q → ⊥

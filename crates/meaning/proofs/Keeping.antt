@@ -15,7 +15,7 @@ use Rattle.forms.proofs.Depends.{depends-putIn}
 use Rattle.meaning.specs.Interval.{Interval, inside, shifted, moved}
 use Rattle.meaning.specs.Rule.{Node, fixed, signal, both, either, next, until, previous, since, nodeAt, Earlier}
 use Rattle.meaning.specs.Rule.{Ordered, count, firstOf, shiftedNode, Entry, holds}
-use Rattle.meaning.specs.Horizon.{Horizon, never, larger, horizonOf, horizons}
+use Rattle.meaning.specs.Horizon.{Horizon, never, larger, horizonOf, horizons, Ends, parameterHorizon, By}
 use Rattle.meaning.specs.Rewriting.{Neighbour, none, at, put, onlyIf, formOf, formsOf, parameterTo, rowTo}
 use Rattle.meaning.specs.Rewriting.{nextRow, untilLater, derivedRow, derivedRows, previousRow, sinceEarlier}
 use Rattle.meaning.specs.Rewriting.{pastRow, pastRows}
@@ -23,8 +23,8 @@ use Rattle.meaning.proofs.Blocks.{block-low, one-new, firstOf-more, fir
 use Rattle.meaning.proofs.Blocks.{length-formsOf, length-derivedRows, length-pastRows}
 use Rattle.meaning.proofs.Intervals.{moved-cases, shiftedNode-zero, shifts-pos}
 use Rattle.meaning.proofs.Shapes.{depends-onlyIf}
-use Rattle.meaning.proofs.Horizons.{Ends, ends-left, ends-right, ends-sooner, ends-now, ends-inside}
-use Rattle.meaning.proofs.Horizons.{ends-moved, parameterHorizon, By, horizons-low, horizons-new}
+use Rattle.meaning.proofs.Horizons.{ends-left, ends-right, ends-sooner, ends-now, ends-inside}
+use Rattle.meaning.proofs.Horizons.{ends-moved, horizons-low, horizons-new}
 
 module _ (rule : List Node) (m : ℕ) where
   -- at time t, f waits only for parameters that are over by time b

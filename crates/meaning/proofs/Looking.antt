@@ -1,20 +1,10 @@
--- Which records look ahead, and how far a row of each may look.
+-- How far a row of each record may look.
 -- Assumes nothing.
 use mathlib.Core.Path.{_≡_, refl}
 use Prim.Native.Nat.{ℕ, suc, _≤_}
 use native.Mathlib.Omega.{arith}
 use Rattle.meaning.specs.Rule.{Node, fixed, signal, both, either, next, until, previous, since}
-
--- next and until look ahead
-unfoldable pub Future : Node → Type 0
-Future (fixed b) = ⊥
-Future (signal s) = ⊥
-Future (both l r) = ⊥
-Future (either l r) = ⊥
-Future (next l v) = Unit {0}
-Future (until l r v) = Unit {0}
-Future (previous l v) = ⊥
-Future (since l r v) = ⊥
+use Rattle.meaning.specs.Shape.{Future}
 
 -- how many records' parameters a row of record k may name: the earlier records', and for next and until its own
 unfoldable pub reach : Node → ℕ → ℕ

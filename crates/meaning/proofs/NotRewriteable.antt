@@ -1,60 +1,9 @@
 -- By which laws a rule may not be rewritten: a small log each, one side that holds in it and one that does not.
 -- Assumes nothing.
-use mathlib.Core.Path.{_≡_, refl}
-use mathlib.Core.Bool.{Bool, true, false, not, _&&_, _||_}
-use mathlib.Core.List.{List, [], _∷_}
-use Prim.Native.Nat.{ℕ}
-use Rattle.ground.specs.Fold.{fold, everyIn, someIn}
-use Rattle.ground.specs.Bits.{bit}
-use Rattle.meaning.specs.Interval.{Interval, between, onward, distance, inside}
-use Rattle.meaning.specs.Rule.{Entry, entryAt, timeAt, holds}
-use Rattle.meaning.specs.Meaning.{nextAt, untilAt, previousAt}
-
--- a record of a log: its time, and the sum of 1 where a holds, 2 where b holds, 4 where c holds
-abbrev pub entry : ℕ → ℕ → Entry
-entry minute sum = record { time = minute; signals = sum }
-
--- what holds at each record of a log
-abbrev pub Test : Type 0
-Test = List Entry → ℕ → Bool
-
-abbrev pub a : Test
-a log i = holds (entryAt log i) 0
-
-abbrev pub b : Test
-b log i = holds (entryAt log i) 1
-
-abbrev pub c : Test
-c log i = holds (entryAt log i) 2
-
-abbrev pub denied : Test → Test
-denied p log i = not (p log i)
-
-abbrev pub and : Test → Test → Test
-and p q log i = p log i && q log i
-
-abbrev pub or : Test → Test → Test
-or p q log i = p log i || q log i
-
-abbrev pub next : Interval → Test → Test
-next v p log i = nextAt log (p log) v i
-
-abbrev pub previous : Interval → Test → Test
-previous v p log i = previousAt log (p log) v i
-
-abbrev pub until : Interval → Test → Test → Test
-until v p q log i = untilAt log (p log) (q log) v i
-
-abbrev pub eventually : Interval → Test → Test
-eventually v p log i = untilAt log (λ k. true) (p log) v i
-
-abbrev pub always : Interval → Test → Test
-always v p = denied (eventually v (denied p))
-
--- the one holds at record i of the log, and the other does not
-unfoldable pub Differ : Test → Test → ℕ → List Entry → Type 0
-unfolding nextAt untilAt previousAt holds entryAt timeAt inside distance someIn everyIn fold bit
-Differ p q i log = (p log i ≡ true) × (q log i ≡ false)
+use mathlib.Core.Path.{refl}
+use mathlib.Core.List.{[], _∷_}
+use Rattle.meaning.specs.Interval.{between, onward}
+use Rattle.meaning.specs.Tests.{entry, a, b, c, denied, and, or, next, previous, until, eventually, always, Differ}
 
 -- 1. what ends in the longer time need not end in the shorter
 pub longer-not-shorter : Differ (until (between 0 2) a b) (until (between 0 1) a b) 0 (entry 0 1 ∷ entry 2 2 ∷ [])

@@ -14,9 +14,10 @@ use Rattle.forms.specs.Area.{formIn}
 use Rattle.meaning.specs.Rule.{Node, nodeAt, Ordered, count, firstOf, parameters, Entry}
 use Rattle.meaning.specs.Rewriting.{Neighbour, none, at, put, derivedRows, pastRows}
 use Rattle.meaning.specs.Words.{Known, leave, feed, close, after}
+use Rattle.meaning.specs.Shape.{KnownShape}
 use Rattle.meaning.specs.Whole.{PastEquations, DerivedEquations, FirstRecord, LaterRecord, End}
 use Rattle.meaning.proofs.Blocks.{length-derivedRows, length-pastRows}
-use Rattle.meaning.proofs.Shapes.{KnownShape, after-shape}
+use Rattle.meaning.proofs.Shapes.{after-shape}
 use Rattle.meaning.proofs.Reach.{Below, LooksBack, none-back, derived-back}
 use Rattle.meaning.proofs.Whole.{derived-more, derived-made, derived-row, past-more, past-made, past-row}
 use Rattle.meaning.proofs.EveryRecord.{fits-each}

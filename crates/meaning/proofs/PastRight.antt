@@ -15,10 +15,11 @@ use Rattle.meaning.specs.Rule.{Ordered, count, firstOf, shiftedNode, Ent
 use Rattle.meaning.specs.Meaning.{previousAt, sinceAt, meaning, values}
 use Rattle.meaning.specs.Rewriting.{none, at, put, onlyIf, formsOf, rowTo, previousRow, sinceEarlier, pastRow}
 use Rattle.meaning.specs.Rewriting.{pastRows}
+use Rattle.meaning.specs.Shape.{Future}
 use Rattle.meaning.proofs.Blocks.{rows-none, rows-more, length-pastRows}
 use Rattle.meaning.proofs.Intervals.{movedTo, moved-cases}
 use Rattle.meaning.proofs.Unrolling.{since-first, since-step}
-use Rattle.meaning.proofs.Looking.{Future, reach, reach-future}
+use Rattle.meaning.proofs.Looking.{reach, reach-future}
 use Rattle.meaning.proofs.Agreement.{recordValue, Agrees, agrees-down, agrees-new, block-fits}
 use Rattle.meaning.proofs.RowsRight.{RightRow, RightRows, from-reach, rows-agree, value-onlyIf, value-put}
 use Rattle.meaning.proofs.RowsRight.{put-value}

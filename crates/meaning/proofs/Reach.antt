@@ -17,7 +17,8 @@ use Rattle.meaning.specs.Rule.{Node, fixed, signal, both, either, next, 
 use Rattle.meaning.specs.Rule.{nodeAt, Earlier, Ordered, count, firstOf, Entry, holds}
 use Rattle.meaning.specs.Rewriting.{Neighbour, none, at, put, onlyIf, formOf, formsOf, parameterTo}
 use Rattle.meaning.specs.Rewriting.{nextRow, untilLater, derivedRow, derivedRows}
-use Rattle.meaning.proofs.Blocks.{block-low, one-new, firstOf-more, firstOf-mono, Place, place}
+use Rattle.meaning.specs.Shape.{Place}
+use Rattle.meaning.proofs.Blocks.{block-low, one-new, firstOf-more, firstOf-mono, place}
 use Rattle.meaning.proofs.Blocks.{Rows, rows-none, rows-more, length-formsOf, length-derivedRows}
 use Rattle.meaning.proofs.Intervals.{moved-cases, shifts-pos}
 use Rattle.meaning.proofs.Looking.{reach, reach-most}

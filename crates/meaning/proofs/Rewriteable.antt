@@ -9,19 +9,15 @@ use native.Mathlib.Decide.{decLt}
 use native.Mathlib.Omega.{arith}
 use lib.Dec.{leb, leb·zero, ltb}
 use lib.ListN.{length}
-use borrow.Author.Tests.{le-leb, lt-leb, lt-ltb}
-use Rattle.ground.specs.Fold.{everyIn}
-use Rattle.meaning.specs.Interval.{Interval, between, onward, distance, inside}
+use borrow.Author.Tests.{leb-true, le-leb, lt-leb, lt-ltb}
+use Rattle.ground.specs.Fold.{_⊕_, everyIn}
+use Rattle.meaning.specs.Interval.{Interval, between, onward, distance, inside, Within}
 use Rattle.meaning.specs.Rule.{Entry, timeAt, Rising}
 use Rattle.meaning.specs.Meaning.{nextAt, untilAt, previousAt, sinceAt}
 use Rattle.meaning.proofs.Intervals.{distance-same, between-gives, between-made, distance-amid}
 use Rattle.meaning.proofs.Ranges.{everyIn-none, everyIn-first, everyIn-all}
 use Rattle.meaning.proofs.Ranges.{someIn-first, someIn-never, someIn-cong, someIn-factor}
 use Rattle.meaning.proofs.Waits.{waits-found, waits-made, waits-within, waits-or, waits-not, waits-and}
-
--- every gap inside the one interval is inside the other
-abbrev pub Within : Interval → Interval → Type 0
-Within v w = (here other : ℕ) → inside v here other ≡ true → inside w here other ≡ true
 
 pub within-between : (low high low′ high′ : ℕ) → low′ ≤ low → high ≤ high′
     → Within (between low high) (between low′ high′)
@@ -34,6 +30,22 @@ unfolding inside
 within-onward low high low′ l here other e =
     let d = between-gives low high here other e in
     le-leb low′ (distance here other) (omega (arith, d .0))
+
+pub within-later : (low low′ : ℕ) → low′ ≤ low → Within (onward low) (onward low′)
+unfolding inside
+within-later low low′ l here other e =
+    le-leb low′ (distance here other) (omega (arith, leb-true low (distance here other) e))
+
+-- how a rule writes "not" and "or"
+pub not-written : (p : Bool) → (true ⊕ p) ≡ not p
+not-written true = refl
+not-written false = refl
+
+pub or-written : (p q : Bool) → ((p ⊕ q) ⊕ (p && q)) ≡ (p || q)
+or-written true true = refl
+or-written true false = refl
+or-written false true = refl
+or-written false false = refl
 
 inside-now : (high t : ℕ) → inside (between 0 high) t t ≡ true
 inside-now high t = between-made 0 high t t (omega arith) (omega (arith, distance-same t))

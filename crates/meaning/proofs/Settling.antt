@@ -9,19 +9,14 @@ use native.Mathlib.Omega.{arith}
 use lib.ListN.{length}
 use Rattle.forms.specs.Form.{Form, constant, value, DependsOn}
 use Rattle.forms.proofs.Depends.{depends-none}
-use Rattle.meaning.specs.Rule.{Node, Ordered, firstOf, Entry, entryAt, timeAt, Rising}
-use Rattle.meaning.specs.Horizon.{within, horizon}
+use Rattle.meaning.specs.Rule.{Node, Ordered, firstOf, Entry, entryAt, timeAt, Rising, Climbs}
+use Rattle.meaning.specs.Horizon.{within, horizon, Ends, By}
 use Rattle.meaning.specs.Rewriting.{none, at, derivedRows}
-use Rattle.meaning.specs.Words.{Known, start, first, feed, fed, after, word}
+use Rattle.meaning.specs.Words.{Known, start, first, feed, fed, after, word, wordOf}
 use Rattle.meaning.proofs.Blocks.{length-derivedRows}
-use Rattle.meaning.proofs.Theorems.{wordOf, word-constant}
-use Rattle.meaning.proofs.Horizons.{Ends, By, by-none}
+use Rattle.meaning.proofs.Theorems.{word-constant}
+use Rattle.meaning.proofs.Horizons.{by-none}
 use Rattle.meaning.proofs.Keeping.{Keeps, Before, forms-keep, put-waits, derivedRows-keep, pastRows-keep}
-
--- times never fall, from time t on
-abbrev pub Climbs : ℕ → List Entry → Type 0
-Climbs t [] = Unit {0}
-Climbs t (e ∷ es) = (t ≤ e .time) × Climbs (e .time) es
 
 pub rising-climbs : (e : Entry) (es : List Entry) → Rising (e ∷ es) → Climbs (e .time) es
 unfolding timeAt entryAt

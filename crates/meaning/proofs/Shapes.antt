@@ -18,29 +18,9 @@ use Rattle.meaning.specs.Rule.{nodeAt, count, firstOf, Entry, holds}
 use Rattle.meaning.specs.Rewriting.{Neighbour, none, at, put, onlyIf, rowTo, formsOf}
 use Rattle.meaning.specs.Rewriting.{previousRow, sinceEarlier, pastRow, pastRows, derivedRows}
 use Rattle.meaning.specs.Words.{Known, first, feed, fed, after}
-use Rattle.meaning.proofs.Looking.{Future}
-use Rattle.meaning.proofs.Blocks.{firstOf-more, firstOf-mono, Place, place-grows, place, node-one}
+use Rattle.meaning.specs.Shape.{Place, Future, FutureBefore, RowShape, Shaped, KnownShape}
+use Rattle.meaning.proofs.Blocks.{firstOf-more, firstOf-mono, place-grows, place, node-one}
 use Rattle.meaning.proofs.Blocks.{Rows, rows-none, rows-more, length-pastRows}
-
--- q is a next or until parameter of one of the first k records
-pub record FutureBefore (rule : List Node) (k q : ℕ) : Type 0 where
-  pub place : Place rule k q
-  pub future : Future (nodeAt rule (place .node))
-
--- a past row by its record: a signal's constant, a next or until itself, or of earlier next and until parameters only
-unfoldable pub RowShape : List Node → (m : ℕ) → Entry → (k n : ℕ) → Node → Form m → Type 0
-RowShape rule m e k n (fixed b) f = Unit {0}
-RowShape rule m e k n (signal s) f = f ≡ constant m (holds e s)
-RowShape rule m e k n (both l r) f = Unit {0}
-RowShape rule m e k n (either l r) f = Unit {0}
-RowShape rule m e k n (next l v) f = f ≡ parameter m (firstOf rule k + n)
-RowShape rule m e k n (until l r v) f = f ≡ parameter m (firstOf rule k + n)
-RowShape rule m e k n (previous l v) f = DependsOn (FutureBefore rule k) m f
-RowShape rule m e k n (since l r v) f = DependsOn (FutureBefore rule k) m f
-
--- the rows of the first K records have that shape, however they were made
-abbrev pub Shaped : List Node → (m : ℕ) → Entry → List (Form m) → ℕ → Type 0
-Shaped rule m e rows K = Rows rule (constant m false) (λ k n f. RowShape rule m e k n (nodeAt rule k) f) rows K
 
 -- such a parameter is one of the first k records'
 pub future-below : (rule : List Node) (k q : ℕ) → FutureBefore rule k q → q < firstOf rule k
@@ -232,9 +212,6 @@ module _ (rule : List Node) (m : ℕ) (fits : (k : ℕ) → firstOf rule k ≤ m
       (λ n c. row-shape (formsOf m rule K) derived past K long (past-shape derived before K) before n (nodeAt rule K))
 
 -- so have those that are known after each record of a log
-abbrev pub KnownShape : List Node → (m : ℕ) → Known m → Type 0
-KnownShape rule m s = Shaped rule m (s .last) (s .past) (length rule)
-
 module _ (rule : List Node) (m : ℕ) (fits : (k : ℕ) → firstOf rule k ≤ m) where
   pub first-shape : (e : Entry) → KnownShape rule m (first m rule e)
   unfolding first

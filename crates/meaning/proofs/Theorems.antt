@@ -20,16 +20,11 @@ use Rattle.forms.proofs.Reading.{which-true, which-false, which-is-true, which-
 use Rattle.meaning.specs.Rule.{Node, Ordered, firstOf, parameters, Entry, entryAt, timeAt, Rising}
 use Rattle.meaning.specs.Meaning.{parameterAt, valueOf}
 use Rattle.meaning.specs.Rewriting.{Neighbour, none, at, put, derivedRows}
-use Rattle.meaning.specs.Words.{Known, feed, close, after, Word, kept, broken, wordFor, word}
+use Rattle.meaning.specs.Words.{Known, feed, close, after, wordFor, word, wordOf}
 use Rattle.meaning.proofs.Agreement.{Agrees, agrees-down}
 use Rattle.meaning.proofs.RowsRight.{rows-agree}
 use Rattle.meaning.proofs.DerivedRight.{Ahead, ahead-down}
 use Rattle.meaning.proofs.Following.{Right, derived-follows, close-right, after-right}
-
--- the word of a value
-unfoldable pub wordOf : Bool → Word
-wordOf true = kept
-wordOf false = broken
 
 pub word-constant : (m : ℕ) (b : Bool) → word m (constant m b) ≡ wordOf b
 unfolding word wordFor wordOf

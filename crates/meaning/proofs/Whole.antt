@@ -15,11 +15,12 @@ use Rattle.meaning.specs.Rule.{nodeAt, Earlier, Ordered, count, firstOf,
 use Rattle.meaning.specs.Rewriting.{Neighbour, none, at, put, onlyIf, formsOf, parameterTo, rowTo, nextRow}
 use Rattle.meaning.specs.Rewriting.{untilLater, derivedRow, derivedRows, previousRow, sinceEarlier, pastRow}
 use Rattle.meaning.specs.Rewriting.{pastRows}
+use Rattle.meaning.specs.Shape.{Future, Shaped}
 use Rattle.meaning.proofs.Blocks.{block-low, block-new, firstOf-more, firstOf-mono}
 use Rattle.meaning.proofs.Blocks.{length-formsOf, length-derivedRows, length-pastRows}
 use Rattle.meaning.proofs.Intervals.{moved-cases}
-use Rattle.meaning.proofs.Looking.{Future, reach-past}
-use Rattle.meaning.proofs.Shapes.{Shaped, future-below, shaped-past}
+use Rattle.meaning.proofs.Looking.{reach-past}
+use Rattle.meaning.proofs.Shapes.{future-below, shaped-past}
 use Rattle.meaning.proofs.Reach.{Below, LooksBack, forms-back, put-back-low}
 
 module _ (m : ℕ) (rule : List Node) where

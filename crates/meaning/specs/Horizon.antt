@@ -1,9 +1,11 @@
 -- How long a rule can stay open (document 01, "What a rule means").
+use mathlib.Core.Path.{_≡_}
 use mathlib.Core.List.{List, [], _∷_, _++_}
-use Prim.Native.Nat.{ℕ, zero, suc, _+_, _-_, max}
+use Prim.Native.Nat.{ℕ, zero, suc, _+_, _-_, _≤_, _<_, max}
 use lib.ListN.{length, getD}
 use Rattle.meaning.specs.Interval.{Interval, between, onward}
 use Rattle.meaning.specs.Rule.{Node, fixed, signal, both, either, next, until, previous, since, nodeAt}
+use Rattle.meaning.specs.Rule.{count, firstOf, shiftedNode}
 
 -- a number of minutes, or none
 pub data Horizon : Type 0 where
@@ -40,6 +42,23 @@ horizons rule (suc k) = let earlier = horizons rule k in earlier ++ (horizonOf e
 -- the rule's horizon is its last record's
 unfoldable pub horizon : List Node → Horizon
 horizon rule = getD (horizons rule (length rule)) (length rule - 1) never
+
+-- from time t on, the horizon is over by time b
+abbrev pub Ends : Horizon → ℕ → ℕ → Type 0
+Ends (within h) t b = t + h ≤ b
+Ends never t b = ⊥
+
+-- the horizon of record k's parameter of shift n: the record's, with its interval shifted
+unfoldable pub parameterHorizon : List Node → ℕ → ℕ → Horizon
+parameterHorizon rule k n = horizonOf (horizons rule k) (shiftedNode (nodeAt rule k) n)
+
+-- q is a parameter that from time t on is over by time b
+pub record By (rule : List Node) (t b q : ℕ) : Type 0 where
+  pub node : ℕ
+  pub shift : ℕ
+  pub less : shift < count (nodeAt rule node)
+  pub here : firstOf rule node + shift ≡ q
+  pub ends : Ends (parameterHorizon rule node shift) t b
 
 -- the interval has an upper end
 unfoldable pub Bounded : Interval → Type 0

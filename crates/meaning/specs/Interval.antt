@@ -1,6 +1,7 @@
 -- Intervals of minutes: whether two records stand in one, and what a gap makes of it
 -- (document 01, "How the rule is rewritten").
-use mathlib.Core.Bool.{Bool, _&&_, cond}
+use mathlib.Core.Path.{_≡_}
+use mathlib.Core.Bool.{Bool, true, _&&_, cond}
 use Prim.Native.Nat.{ℕ, suc, _+_, _-_, min}
 use lib.Dec.{leb}
 
@@ -17,6 +18,10 @@ distance here other = (here - other) + (other - here)
 unfoldable pub inside : Interval → ℕ → ℕ → Bool
 inside (between low high) here other = leb low (distance here other) && leb (distance here other) high
 inside (onward low) here other = leb low (distance here other)
+
+-- every gap inside the one interval is inside the other
+abbrev pub Within : Interval → Interval → Type 0
+Within v w = (here other : ℕ) → inside v here other ≡ true → inside w here other ≡ true
 
 -- how many shifts there are: 0 to high, or to low with no upper end
 unfoldable pub shifts : Interval → ℕ

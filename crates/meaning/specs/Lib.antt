@@ -1,7 +1,9 @@
 pub mod Interval
 pub mod Rule
 pub mod Meaning
+pub mod Tests
 pub mod Horizon
 pub mod Rewriting
 pub mod Words
+pub mod Shape
 pub mod Whole

@@ -2,7 +2,7 @@
 -- Records of the log count from 0: document 01's record 1 is record 0 here.
 use mathlib.Core.Bool.{Bool, false, _&&_}
 use mathlib.Core.List.{List, [], _∷_, _++_}
-use Prim.Native.Nat.{ℕ, zero, suc, _+_, _-_}
+use Prim.Native.Nat.{ℕ, zero, suc, _-_}
 use lib.Dec.{ltb}
 use lib.ListN.{length, getD}
 use Rattle.ground.specs.Fold.{_⊕_, everyIn, someIn, tab}

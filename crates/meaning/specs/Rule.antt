@@ -1,6 +1,6 @@
 -- Rules, their parameters, and logs (document 01, "Lists on disk" and "How the rule is rewritten").
 use mathlib.Core.Bool.{Bool, true}
-use mathlib.Core.List.{List}
+use mathlib.Core.List.{List, [], _∷_}
 use Prim.Native.Nat.{ℕ, zero, suc, _+_, _≤_, _<_}
 use lib.ListN.{length, getD}
 use Rattle.ground.specs.Bits.{bit}
@@ -84,3 +84,8 @@ holds e s = bit (e .signals) s
 -- times never fall
 abbrev pub Rising : List Entry → Type 0
 Rising log = (i j : ℕ) → i ≤ j → j < length log → timeAt log i ≤ timeAt log j
+
+-- times never fall, from time t on
+abbrev pub Climbs : ℕ → List Entry → Type 0
+Climbs t [] = Unit {0}
+Climbs t (e ∷ es) = (t ≤ e .time) × Climbs (e .time) es

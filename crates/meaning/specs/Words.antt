@@ -1,5 +1,5 @@
 -- Feeding, closing and the word (document 01, "How the rule is rewritten").
-use mathlib.Core.Bool.{Bool, true}
+use mathlib.Core.Bool.{Bool, true, false}
 use mathlib.Core.List.{List, [], _∷_}
 use Prim.Native.Nat.{ℕ, _-_}
 use lib.ListN.{length}
@@ -67,3 +67,8 @@ wordFor Open = pending
 -- kept if the remainder is true, broken if false, else pending
 unfoldable pub word : (m : ℕ) → Form m → Word
 word m f = wordFor (whichConstant m f)
+
+-- the word of a value
+unfoldable pub wordOf : Bool → Word
+wordOf true = kept
+wordOf false = broken

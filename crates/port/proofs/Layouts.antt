@@ -13,19 +13,20 @@ use borrow.Author.Tests.{lt-ltb, le-ltb, le-leb, lt-leb}
 use Rattle.ground.specs.Bytes.{little}
 use Rattle.ground.proofs.Folds.{less-or-not}
 use Rattle.ground.proofs.Tabs.{length-tab, getD-tab}
-use Rattle.rewriting.specs.declared.step.Moment.{Moment}
+use Rattle.meaning.specs.Rule.{Entry}
 use Rattle.watcher.specs.declared.state.Watcher.{Watcher}
 use Rattle.watcher.specs.declared.state.Phase.{Phase}
 use Rattle.watcher.specs.declared.state.Phase.the-variants.{Fresh, Running, Closed}
 use Rattle.watcher.specs.declared.state.Verdict.the-variants.{Kept, Broken}
 use Rattle.watcher.specs.Limits.{listBytes}
+use Rattle.watcher.specs.Numbers.{stageOf, lastIn}
 use Rattle.watcher.specs.Calls.{zeroState}
 use Rattle.port.specs.Layout.{stateBytes, rulePlace, listPlace, recordsPlace, signalsPlace, timePlace, wordPlace}
-use Rattle.port.specs.Layout.{phasePlace, zeroPlace, digit, phaseNumber, lastIn, numberByte, byteAt}
+use Rattle.port.specs.Layout.{phasePlace, zeroPlace, digit, phaseNumber, numberByte, byteAt}
 use Rattle.port.specs.Layout.{phaseWith, listAt, stateIn}
 use Rattle.port.specs.Steps.{listPut}
 
-module _ (records signals : ℕ) (last : Moment) (phase i : ℕ) where
+module _ (records signals : ℕ) (last : Entry) (phase i : ℕ) where
   pub number-records : i < signalsPlace
       → digit records (i - recordsPlace) ≡ numberByte records signals last phase i
   unfolding numberByte
@@ -75,7 +76,7 @@ unfolding byteAt
 byte-list w i a h = rw (le-ltb i listPlace a) (rw (lt-ltb i recordsPlace h) refl)
 
 pub byte-number : (w : Watcher) (i : ℕ) → recordsPlace ≤ i
-    → numberByte (w .records) (w .signals) (lastIn (w .phase)) (phaseNumber (w .phase)) i
+    → numberByte (w .records) (w .signals) (lastIn (stageOf (w .phase))) (phaseNumber (w .phase)) i
     ≡ byteAt w i
 unfolding byteAt
 byte-number w i a = rw (le-ltb i listPlace (omega arith)) (rw (le-ltb i recordsPlace a) refl)
@@ -189,8 +190,8 @@ lists-put w b₀ b₁ b₂ l e f j h =
     (less-or-not j listPlace)
 
 -- a byte of the numbers, made from the phase's parts
-pub byte-made : (w : Watcher) (i : ℕ) (last : Moment) (number x : ℕ) → recordsPlace ≤ i → last ≡ lastIn (w .phase)
-    → number ≡ phaseNumber (w .phase) → x ≡ numberByte (w .records) (w .signals) last number i → x ≡ byteAt w i
+pub byte-made : (w : Watcher) (i : ℕ) (last : Entry) (number x : ℕ) → recordsPlace ≤ i
+    → last ≡ lastIn (stageOf (w .phase)) → number ≡ phaseNumber (w .phase) → x ≡ numberByte (w .records) (w .signals) last number i → x ≡ byteAt w i
 byte-made w i last number x a l n e =
-    let made : x ≡ numberByte (w .records) (w .signals) (lastIn (w .phase)) (phaseNumber (w .phase)) i = cc in
+    let made : x ≡ numberByte (w .records) (w .signals) (lastIn (stageOf (w .phase))) (phaseNumber (w .phase)) i = cc in
     made ∙ byte-number w i a

@@ -9,17 +9,18 @@ use lib.ListN.{getD}
 use Rattle.ground.specs.Bytes.{little}
 use Rattle.ground.proofs.ByteLaws.{little-lt}
 use Rattle.ground.proofs.Tabs.{length-tab}
-use Rattle.rewriting.specs.declared.step.Moment.{Moment}
+use Rattle.meaning.specs.Rule.{Entry}
 use Rattle.watcher.specs.declared.state.Watcher.{Watcher}
 use Rattle.watcher.specs.declared.state.Phase.{Phase}
 use Rattle.watcher.specs.declared.state.Phase.the-variants.{Fresh, Running, Closed}
 use Rattle.watcher.specs.declared.state.Verdict.the-variants.{Kept, Broken}
 use Rattle.watcher.specs.Limits.{listBytes}
 use Rattle.watcher.specs.Calls.{zeroState}
+use Rattle.watcher.specs.Numbers.{stageOf, lastIn}
 use Rattle.watcher.specs.Machine.{MachineBytes, MachinePhase, MachineState}
 use Rattle.watcher.proofs.Machines.{bytes-tab, machine-zero}
 use Rattle.port.specs.Layout.{stateBytes, rulePlace, listPlace, recordsPlace, signalsPlace, timePlace, wordPlace}
-use Rattle.port.specs.Layout.{phasePlace, zeroPlace, digit, phaseNumber, lastIn, numberByte, byteAt}
+use Rattle.port.specs.Layout.{phasePlace, zeroPlace, digit, phaseNumber, numberByte, byteAt}
 use Rattle.port.specs.Layout.{written, phaseWith, listAt, stateIn}
 
 phase-machine : (n time signals : ℕ) → time < 2 ^ 32 → signals < 2 ^ 16 → MachinePhase (phaseWith n time signals)
@@ -46,13 +47,13 @@ machine-in bytes h = go (ltb 3 (getD bytes phasePlace 0))
     go false =
         record {
           long-rule = length-tab listBytes (λ i. getD bytes (rulePlace + i) 0);
-          rule = bytes-tab listBytes (λ i. getD bytes (rulePlace + i) 0) (λ i. h (rulePlace + i));
+          rule = bytes-tab listBytes (λ i. getD bytes (rulePlace + i) 0) (omega arith) (λ i. h .small (rulePlace + i));
           long-list = length-tab listBytes (λ i. getD bytes (listPlace + i) 0);
-          list = bytes-tab listBytes (λ i. getD bytes (listPlace + i) 0) (λ i. h (listPlace + i));
-          records = little-lt bytes recordsPlace 8 h;
-          signals = little-lt bytes signalsPlace 8 h;
-          phase = phase-machine (getD bytes phasePlace 0) _ _ (little-lt bytes timePlace 4 h)
-              (little-lt bytes wordPlace 2 h);
+          list = bytes-tab listBytes (λ i. getD bytes (listPlace + i) 0) (omega arith) (λ i. h .small (listPlace + i));
+          records = little-lt bytes recordsPlace 8 (h .small);
+          signals = little-lt bytes signalsPlace 8 (h .small);
+          phase = phase-machine (getD bytes phasePlace 0) _ _ (little-lt bytes timePlace 4 (h .small))
+              (little-lt bytes wordPlace 2 (h .small));
         }
 
 -- a written state is bytes
@@ -71,7 +72,7 @@ either-byte : (b : Bool) (x y : ℕ) → x < 256 → y < 256 → cond b x y < 25
 either-byte true x y h k = h
 either-byte false x y h k = k
 
-number-byte : (records signals : ℕ) (last : Moment) (phase i : ℕ) → phase < 256
+number-byte : (records signals : ℕ) (last : Entry) (phase i : ℕ) → phase < 256
     → numberByte records signals last phase i < 256
 unfolding numberByte
 number-byte records signals last phase i h =
@@ -84,8 +85,8 @@ number-byte records signals last phase i h =
 pub written-bytes : (w : Watcher) → MachineState w → MachineBytes (written w)
 unfolding written byteAt
 written-bytes w s =
-    bytes-tab stateBytes (byteAt w)
+    bytes-tab stateBytes (byteAt w) (omega arith)
     (λ i.
-    either-byte (ltb i listPlace) _ _ (s .rule i)
-    (either-byte (ltb i recordsPlace) _ _ (s .list (i - listPlace))
-    (number-byte (w .records) (w .signals) (lastIn (w .phase)) (phaseNumber (w .phase)) i (phase-byte (w .phase)))))
+    either-byte (ltb i listPlace) _ _ (s .rule .small i)
+    (either-byte (ltb i recordsPlace) _ _ (s .list .small (i - listPlace))
+    (number-byte (w .records) (w .signals) (lastIn (stageOf (w .phase))) (phaseNumber (w .phase)) i (phase-byte (w .phase)))))

@@ -6,15 +6,16 @@ use native.Mathlib.Omega.{arith}
 use lib.ListN.{length, getD}
 use Rattle.ground.specs.Bytes.{little}
 use Rattle.ground.proofs.Tabs.{getD-tab, tab-is}
-use Rattle.rewriting.specs.declared.step.Moment.{Moment}
+use Rattle.meaning.specs.Rule.{Entry}
 use Rattle.watcher.specs.declared.state.Watcher.{Watcher}
 use Rattle.watcher.specs.declared.state.Phase.{Phase}
 use Rattle.watcher.specs.declared.state.Phase.the-variants.{Fresh, Running, Closed}
 use Rattle.watcher.specs.declared.state.Verdict.the-variants.{Kept, Broken}
 use Rattle.watcher.specs.Limits.{listBytes}
+use Rattle.watcher.specs.Numbers.{stageOf, lastIn}
 use Rattle.watcher.specs.Machine.{MachinePhase, MachineState}
 use Rattle.port.specs.Layout.{stateBytes, rulePlace, listPlace, recordsPlace, signalsPlace, timePlace, wordPlace}
-use Rattle.port.specs.Layout.{phasePlace, digit, phaseNumber, lastIn, numberByte, byteAt, written, phaseWith}
+use Rattle.port.specs.Layout.{phasePlace, digit, phaseNumber, numberByte, byteAt, written, phaseWith}
 use Rattle.port.specs.Layout.{listAt, stateIn}
 use Rattle.port.proofs.Digits.{little-digits}
 use Rattle.port.proofs.Layouts.{number-records, number-signals, number-time, number-word, number-phase}
@@ -26,8 +27,8 @@ unfolding written
 written-at w i h = getD-tab stateBytes (byteAt w) i 0 h
 
 module _ (w : Watcher) where
-  abbrev last : Moment
-  last = lastIn (w .phase)
+  abbrev last : Entry
+  last = lastIn (stageOf (w .phase))
 
   abbrev phase : ℕ
   phase = phaseNumber (w .phase)
@@ -94,16 +95,16 @@ phase-small (Running time signals) = omega arith
 phase-small (Closed Kept) = omega arith
 phase-small (Closed Broken) = omega arith
 
-phase-back : (p : Phase) → p ≡ phaseWith (phaseNumber p) (lastIn p .time) (lastIn p .signals)
-unfolding phaseWith lastIn
+phase-back : (p : Phase) → p ≡ phaseWith (phaseNumber p) (lastIn (stageOf p) .time) (lastIn (stageOf p) .signals)
+unfolding phaseWith lastIn stageOf
 phase-back Fresh = refl
 phase-back (Running time signals) = refl
 phase-back (Closed Kept) = refl
 phase-back (Closed Broken) = refl
 
 -- its time has 32 bits, and its signals 16
-last-small : (p : Phase) → MachinePhase p → (lastIn p .time < 2 ^ 32) × (lastIn p .signals < 2 ^ 16)
-unfolding MachinePhase lastIn
+last-small : (p : Phase) → MachinePhase p → (lastIn (stageOf p) .time < 2 ^ 32) × (lastIn (stageOf p) .signals < 2 ^ 16)
+unfolding MachinePhase lastIn stageOf
 last-small Fresh m = (omega arith, omega arith)
 last-small (Running time signals) m = m
 last-small (Closed v) m = (omega arith, omega arith)
@@ -113,6 +114,6 @@ pub read-back : (w : Watcher) → MachineState w → w ≡ stateIn (written w)
 read-back w s =
     let small = last-small (w .phase) (s .phase) in
     read-some (written w) (w .rule) (w .list) (phaseNumber (w .phase)) (w .records) (w .signals)
-    (lastIn (w .phase) .time) (lastIn (w .phase) .signals) (w .phase) (number-of-phase w) (phase-small (w .phase))
+    (last w .time) (last w .signals) (w .phase) (number-of-phase w) (phase-small (w .phase))
     (rule-back w (s .long-rule)) (list-back w (s .long-list)) (time-back w (small .0)) (word-back w (small .1))
     (phase-back (w .phase)) (records-back w (s .records)) (signals-back w (s .signals))

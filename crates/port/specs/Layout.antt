@@ -7,12 +7,13 @@ use lib.Dec.{ltb}
 use lib.ListN.{getD}
 use Rattle.ground.specs.Fold.{tab}
 use Rattle.ground.specs.Bytes.{little}
-use Rattle.rewriting.specs.declared.step.Moment.{Moment}
+use Rattle.meaning.specs.Rule.{Entry}
 use Rattle.watcher.specs.declared.state.Watcher.{Watcher}
 use Rattle.watcher.specs.declared.state.Phase.{Phase}
 use Rattle.watcher.specs.declared.state.Phase.the-variants.{Fresh, Running, Closed}
 use Rattle.watcher.specs.declared.state.Verdict.the-variants.{Kept, Broken}
 use Rattle.watcher.specs.Limits.{listBytes}
+use Rattle.watcher.specs.Numbers.{stageOf, lastIn}
 use Rattle.watcher.specs.Calls.{zeroState}
 
 -- the places of the rule and of the signal list; of their numbers of records, in 8 bytes each
@@ -57,14 +58,8 @@ phaseNumber (Running time signals) = 1
 phaseNumber (Closed Kept) = 2
 phaseNumber (Closed Broken) = 3
 
--- the last record of a phase; zeros where it holds none
-unfoldable pub lastIn : Phase → Moment
-lastIn Fresh = record { time = 0; signals = 0 }
-lastIn (Running time signals) = record { time = time; signals = signals }
-lastIn (Closed v) = record { time = 0; signals = 0 }
-
 -- the byte of a state's numbers at a place behind its lists
-unfoldable pub numberByte : (records signals : ℕ) → Moment → (phase : ℕ) → ℕ → ℕ
+unfoldable pub numberByte : (records signals : ℕ) → Entry → (phase : ℕ) → ℕ → ℕ
 numberByte records signals last phase i =
     cond (ltb i signalsPlace) (digit records (i - recordsPlace))
     (cond (ltb i timePlace) (digit signals (i - signalsPlace))
@@ -76,7 +71,7 @@ unfoldable pub byteAt : Watcher → ℕ → ℕ
 byteAt w i =
     cond (ltb i listPlace) (getD (w .rule) i 0)
     (cond (ltb i recordsPlace) (getD (w .list) (i - listPlace) 0)
-    (numberByte (w .records) (w .signals) (lastIn (w .phase)) (phaseNumber (w .phase)) i))
+    (numberByte (w .records) (w .signals) (lastIn (stageOf (w .phase))) (phaseNumber (w .phase)) i))
 
 -- a state in bytes
 unfoldable pub written : Watcher → List ℕ

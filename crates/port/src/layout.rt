@@ -10,8 +10,9 @@ ghost use mathlib.Core.Path.{_≡_};
 ghost use Prim.Native.Nat.{_+_, _≤_};
 ghost use lib.ListN.{length};
 ghost use Rattle.ground.specs.Bytes.{little};
+ghost use Rattle.rewriting.specs.Plans.{entryFor};
 ghost use Rattle.watcher.specs.Limits.{listBytes};
-ghost use Rattle.port.specs.Layout.{stateBytes, recordsPlace, digit, phaseNumber, lastIn};
+ghost use Rattle.port.specs.Layout.{stateBytes, recordsPlace, digit, phaseNumber};
 ghost use Rattle.port.specs.Layout.{numberByte, written, phaseWith, listAt, stateIn};
 ghost use Rattle.port.specs.Steps.{listPut};
 
@@ -125,27 +126,10 @@ fn phase_number(phase: Phase) -> u8
     }
 }
 
-// The last record of a phase.
-fn last_in(phase: Phase) -> Moment
-    ensures { λ r. ⌜ r ≡ lastIn phase ⌝ }
-{
-    match phase {
-        Phase::Fresh => Moment {
-            time: 0,
-            signals: 0,
-        },
-        Phase::Running { time, signals } => Moment { time, signals },
-        Phase::Closed(_) => Moment {
-            time: 0,
-            signals: 0,
-        },
-    }
-}
-
 // The byte of a state's numbers at a place behind its lists.
 fn number_byte(records: usize, signals: usize, last: Moment, phase: u8, i: usize) -> u8
     requires { ⌜ recordsPlace ≤ i ⌝ }
-    ensures { λ r. ⌜ r ≡ numberByte records signals last phase i ⌝ }
+    ensures { λ r. ⌜ r ≡ numberByte records signals (entryFor last) phase i ⌝ }
 {
     if i < SIGNALS {
         return digit(records, i - RECORDS);
@@ -180,7 +164,7 @@ pub(crate) fn write_state(state: Watcher, bytes: &mut [u8])
     let rule = state.rule;
     let list = state.list;
     let phase = state.phase;
-    let last = last_in(phase);
+    let last = phase.last();
     let number = phase_number(phase);
     put_list(bytes, RULE, &rule);
     put_list(bytes, LIST, &list);

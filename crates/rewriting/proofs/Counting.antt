@@ -4,7 +4,7 @@ use mathlib.Core.Path.{_≡_, refl, ap, sym, _∙_}
 use mathlib.Core.Bool.{Bool, true, false, cond}
 use mathlib.Core.Logic.{_⊎_, inl, inr, ⊎-elim}
 use mathlib.Core.List.{List}
-use Prim.Native.Nat.{ℕ, _+_, _≤_, _<_}
+use Prim.Native.Nat.{ℕ, _+_, _≤_, _<_, min}
 use native.Mathlib.Nat.{le-antisymm}
 use native.Mathlib.Numerals.{add-one}
 use native.Mathlib.Omega.{arith}
@@ -85,3 +85,11 @@ pub parameters-done : (list : List ℕ) (n k sum : ℕ) → sum ≡ firstOf (rul
     → sum ≡ parameters (ruleIn list n)
 unfolding parameters
 parameters-done list n k sum e h l = e ∙ ap (firstOf (ruleIn list n)) (le-antisymm h l ∙ sym (length-ruleIn list n))
+
+-- as many records have as many; of no more than 64 records all count
+pub counts-same : (list : List ℕ) (n l r : ℕ) → n ≡ l → r ≡ parameters (ruleIn list n) → r ≡ parameters (ruleIn list l)
+counts-same list n l r h e = e ∙ ap (λ x. parameters (ruleIn list x)) h
+
+pub counts-all : (list : List ℕ) (n r : ℕ) → n ≤ 64 → r ≡ parameters (ruleIn list (min n 64))
+    → r ≡ parameters (ruleIn list n)
+counts-all list n r h e = counts-same list (min n 64) n r (omega arith) e

@@ -23,9 +23,9 @@ use Rattle.meaning.specs.Rule.{Node, holds}
 use Rattle.meaning.proofs.Blocks.{block-low, one-new, length-one, length-block}
 use Rattle.meaning.proofs.Ending.{endValue, derived-end}
 use Rattle.rewriting.specs.declared.step.Step.{Step}
-use Rattle.rewriting.specs.Decode.{nodeOf}
-use Rattle.rewriting.specs.Steps.{intervalIn, nodeFor, entryIn}
-use Rattle.rewriting.specs.Endings.{Settled, lastRow, OfEnd, OfEnds}
+use Rattle.rewriting.specs.Decode.{nodeOf, nodeFor}
+use Rattle.rewriting.specs.inside.Steps.{intervalIn, entryIn}
+use Rattle.rewriting.specs.inside.Endings.{Settled, lastRow, OfEnd, OfEnds}
 use Rattle.rewriting.proofs.Nodes.{nodeAs, kind-quiet, kind-past}
 
 module _ (step : Step) (past forms derived : List (Form (step .m))) (setting : ℕ)

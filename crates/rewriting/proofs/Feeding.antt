@@ -4,7 +4,7 @@ use mathlib.Core.Path.{_≡_, refl, sym, ap, _∙_}
 use mathlib.Core.Bool.{false}
 use mathlib.Core.Logic.{inl, inr, ⊎-elim}
 use mathlib.Core.List.{List, []}
-use Prim.Native.Nat.{ℕ, _+_, _-_, _≤_, _<_}
+use Prim.Native.Nat.{ℕ, _+_, _≤_, _<_}
 use native.Mathlib.Nat.{zero-add}
 use native.Mathlib.Omega.{arith}
 use lib.ListN.{length, replicate, List·getD-eq-default}
@@ -15,7 +15,7 @@ use Rattle.forms.specs.Area.{rowAt, putRows, formIn, Holds}
 use Rattle.forms.proofs.Packing.{pack-words, pack-false}
 use Rattle.forms.proofs.Areas.{length-putRows, row-put, row-kept}
 use Rattle.rewriting.specs.Known.{wordsFor, formAt, areaOf, Tidy}
-use Rattle.rewriting.specs.Walks.{formRow}
+use Rattle.rewriting.specs.Plans.{formRow}
 use Rattle.rewriting.proofs.Placed.{wordsFor-rows, tidy-rest, cleared-laid}
 use Rattle.rewriting.proofs.Written.{held-put, held-kept}
 

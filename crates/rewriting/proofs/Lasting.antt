@@ -22,12 +22,12 @@ use Rattle.rewriting.specs.declared.step.Step.{Step}
 use Rattle.rewriting.specs.declared.step.Plan.{Plan}
 use Rattle.rewriting.specs.declared.step.Moment.{Moment}
 use Rattle.rewriting.specs.declared.step.Neighbour.the-variants.{None}
-use Rattle.rewriting.specs.Decode.{nodeIn}
+use Rattle.rewriting.specs.Decode.{nodeIn, nodeFor}
 use Rattle.rewriting.specs.Known.{pastIn, knownIn, formAt}
 use Rattle.rewriting.specs.Plans.{ruleFor, entryFor, readIn, Ready}
-use Rattle.rewriting.specs.Steps.{nodeFor, entryIn}
-use Rattle.rewriting.specs.Walks.{Begins}
-use Rattle.rewriting.specs.Endings.{Settled, lastRow, OfEnds, lastRows}
+use Rattle.rewriting.specs.inside.Steps.{entryIn}
+use Rattle.rewriting.specs.inside.Walks.{Begins}
+use Rattle.rewriting.specs.inside.Endings.{Settled, lastRow, OfEnds, lastRows}
 use Rattle.rewriting.proofs.Rules.{length-ruleIn, node-in}
 use Rattle.rewriting.proofs.Placed.{tidy-held}
 use Rattle.rewriting.proofs.Tables.{forms-held}

@@ -12,7 +12,7 @@ use Rattle.meaning.specs.Rewriting.{put, onlyIf, parameterTo, rowTo, nextRow, u
 use Rattle.meaning.specs.Rewriting.{previousRow, sinceEarlier}
 use Rattle.rewriting.specs.declared.step.Step.{Step}
 use Rattle.rewriting.specs.declared.step.Neighbour.the-variants.{None, At}
-use Rattle.rewriting.specs.Steps.{neighbourOf, intervalIn, laterOf, previousOf, earlierOf}
+use Rattle.rewriting.specs.inside.Steps.{neighbourOf, intervalIn, laterOf, previousOf, earlierOf}
 
 -- the same row under an equal test
 pub test-same : (m : ℕ) (b b′ : Bool) (f : Form m) (r : List ℕ) → b ≡ b′ → r ≡ pack m (onlyIf m b f)

@@ -15,9 +15,9 @@ use Rattle.meaning.specs.Rule.{Node, fixed, both, either, next, until, previous
 use Rattle.meaning.specs.Rewriting.{put, nextRow, derivedRow, pastRow}
 use Rattle.rewriting.specs.declared.step.Record.{Record}
 use Rattle.rewriting.specs.declared.step.Step.{Step}
-use Rattle.rewriting.specs.Decode.{intervalOf, nodeOf}
-use Rattle.rewriting.specs.Steps.{neighbourOf, intervalIn, nodeFor, entryIn, laterOf, untilOf, derivedOf}
-use Rattle.rewriting.specs.Steps.{previousOf, earlierOf, sinceOf, pastOf}
+use Rattle.rewriting.specs.Decode.{intervalOf, nodeOf, nodeFor}
+use Rattle.rewriting.specs.inside.Steps.{neighbourOf, intervalIn, entryIn, laterOf, untilOf, derivedOf}
+use Rattle.rewriting.specs.inside.Steps.{previousOf, earlierOf, sinceOf, pastOf}
 
 -- a kind past 5 that is neither next nor until
 pub kind-late : (kind : ℕ) → 6 ≤ kind → (kind ≡ 6 → ⊥) → (kind ≡ 7 → ⊥) → 8 ≤ kind

@@ -13,8 +13,7 @@ use Rattle.forms.specs.Area.{formIn}
 use Rattle.meaning.specs.Rule.{Node, signal, next, until, previous, since}
 use Rattle.meaning.specs.Rewriting.{formOf}
 use Rattle.rewriting.specs.declared.step.Record.{Record}
-use Rattle.rewriting.specs.Decode.{intervalOf, nodeOf}
-use Rattle.rewriting.specs.Steps.{nodeFor}
+use Rattle.rewriting.specs.Decode.{intervalOf, nodeOf, nodeFor}
 use Rattle.rewriting.proofs.Nodes.{row-as, kind-future, kind-past}
 
 -- what holds of the kinds that have a parameter holds of a record that is no constant and no joint

@@ -16,8 +16,7 @@ use Rattle.meaning.proofs.Blocks.{length-derivedRows, length-pastRows}
 use Rattle.rewriting.specs.declared.step.Plan.{Plan}
 use Rattle.rewriting.specs.declared.step.Moment.{Moment}
 use Rattle.rewriting.specs.Known.{formAt, pastIn, knownIn, Tidy}
-use Rattle.rewriting.specs.Plans.{ruleFor, entryFor, readIn, areaWith, Sound}
-use Rattle.rewriting.specs.Walks.{formRow}
+use Rattle.rewriting.specs.Plans.{ruleFor, entryFor, readIn, areaWith, Sound, formRow}
 use Rattle.rewriting.proofs.Rules.{length-ruleIn}
 use Rattle.rewriting.proofs.Feeding.{held-none, first-laid, derived-held, derived-stay, feed-laid, rest-stays}
 

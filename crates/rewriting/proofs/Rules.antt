@@ -1,15 +1,19 @@
--- The rule in the first records of a list.
+-- The bytes of a list's records, and the rule in the first of them.
 -- Assumes nothing.
-use mathlib.Core.Path.{_≡_, ap}
+use mathlib.Core.Path.{_≡_, sym, ap}
 use mathlib.Core.Bool.{true}
 use mathlib.Core.List.{List}
-use Prim.Native.Nat.{ℕ, _≤_, _<_}
-use lib.ListN.{length}
+use Prim.Native.Nat.{ℕ, _+_, _*_, _≤_, _<_}
+use lib.ListN.{length, List·getD-eq-default}
 use Rattle.ground.proofs.Tabs.{length-tab, getD-tab, getD-tab-out}
 use Rattle.meaning.specs.Rule.{fixed, nodeAt}
-use Rattle.rewriting.specs.Decode.{byteOf, nodeIn, ruleIn}
-use Rattle.rewriting.specs.Steps.{nodeFor, recordIn}
+use Rattle.rewriting.specs.Decode.{recordBytes, byteOf, nodeIn, ruleIn, nodeFor, recordIn}
 use Rattle.rewriting.specs.declared.step.Record.{Record}
+
+-- a byte past the list's end is zero
+pub byte-past : (list : List ℕ) (k i : ℕ) → length list ≤ recordBytes * k + i → 0 ≡ byteOf list k i
+unfolding byteOf
+byte-past list k i h = sym (List·getD-eq-default list 0 h)
 
 module _ (list : List ℕ) (n : ℕ) where
   pub length-ruleIn : length (ruleIn list n) ≡ n

@@ -12,7 +12,7 @@ use Rattle.forms.specs.Area.{formIn}
 use Rattle.meaning.specs.Rewriting.{onlyIf, parameterTo, rowTo}
 use Rattle.rewriting.specs.declared.interval.Shift.{Shift}
 use Rattle.rewriting.specs.declared.interval.Shift.the-variants.{Gone, To}
-use Rattle.rewriting.specs.Steps.{movedOf, Near}
+use Rattle.rewriting.specs.inside.Steps.{movedOf, Near}
 
 pub past-row : (m count j : ℕ) (rows : List (Form m)) → length rows ≡ count → count ≤ j
     → constant m false ≡ formIn m rows j

@@ -14,9 +14,9 @@ use Rattle.meaning.specs.Rewriting.{formOf, formsOf}
 use Rattle.meaning.proofs.Blocks.{one-new, length-formsOf}
 use Rattle.meaning.proofs.Whole.{forms-whole}
 use Rattle.rewriting.specs.declared.step.Record.{Record}
-use Rattle.rewriting.specs.Decode.{nodeIn, ruleIn}
-use Rattle.rewriting.specs.Steps.{nodeFor, OfRecord}
-use Rattle.rewriting.specs.Walks.{formRow, tableWith}
+use Rattle.rewriting.specs.Decode.{nodeIn, ruleIn, nodeFor}
+use Rattle.rewriting.specs.inside.Steps.{OfRecord}
+use Rattle.rewriting.specs.Plans.{formRow, tableWith}
 use Rattle.rewriting.proofs.Rules.{node-in}
 use Rattle.rewriting.proofs.Written.{held-put}
 

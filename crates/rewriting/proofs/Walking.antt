@@ -17,12 +17,12 @@ use Rattle.rewriting.specs.declared.step.Step.{Step}
 use Rattle.rewriting.specs.declared.step.Neighbour.{Neighbour}
 use Rattle.rewriting.specs.declared.step.Plan.{Plan}
 use Rattle.rewriting.specs.declared.step.Moment.{Moment}
-use Rattle.rewriting.specs.Decode.{nodeIn}
+use Rattle.rewriting.specs.Decode.{nodeIn, nodeFor}
 use Rattle.rewriting.specs.Known.{wordsFor, pastIn, Tidy}
-use Rattle.rewriting.specs.Plans.{ruleFor, entryFor, Sound, HoldsForms}
-use Rattle.rewriting.specs.Steps.{neighbourOf, entryIn, nodeFor, Fair}
-use Rattle.rewriting.specs.Walks.{formRow, stepOf, Begins, derivedAt, PutsDerived, derivedFor}
-use Rattle.rewriting.specs.Walks.{pastAt, PutsPast, pastFor}
+use Rattle.rewriting.specs.Plans.{ruleFor, entryFor, Sound, HoldsForms, formRow}
+use Rattle.rewriting.specs.inside.Steps.{neighbourOf, entryIn, Fair}
+use Rattle.rewriting.specs.inside.Walks.{stepOf, Begins, derivedAt, PutsDerived, derivedFor}
+use Rattle.rewriting.specs.inside.Walks.{pastAt, PutsPast, pastFor}
 use Rattle.rewriting.proofs.Counting.{firstOf-rule, parameters-done}
 use Rattle.rewriting.proofs.Placed.{tidy-held}
 use Rattle.rewriting.proofs.Rules.{node-in}

@@ -12,7 +12,7 @@ use Rattle.forms.specs.Form.{Form}
 use Rattle.forms.specs.Area.{rowAt, putRows, formIn, Holds}
 use Rattle.forms.proofs.Packing.{pack-words}
 use Rattle.forms.proofs.Areas.{row-put, row-kept, putRows-none, putRows-more, putRows-cong}
-use Rattle.rewriting.specs.Walks.{formRow}
+use Rattle.rewriting.specs.Plans.{formRow}
 
 module _ (ws : List ℕ) (base : ℕ) (g : ℕ → List ℕ) where
   -- no row yet, one row more, a block more, all rows

@@ -3,18 +3,16 @@
 use mathlib.Core.Path.{_≡_}
 use mathlib.Core.Bool.{Bool}
 use mathlib.Core.List.{List, []}
-use Prim.Native.Nat.{ℕ, _≤_}
+use Prim.Native.Nat.{ℕ, _≤_, min}
 use Rattle.ground.specs.Bits.{bit}
 use Rattle.meaning.specs.Rule.{count, parameters}
 use Rattle.meaning.specs.Words.{start, valueIfLast}
 use Rattle.rewriting.specs.declared.step.Record.{Record}
 use Rattle.rewriting.specs.declared.step.Plan.{Plan}
 use Rattle.rewriting.specs.declared.step.Moment.{Moment}
-use Rattle.rewriting.specs.Decode.{byteOf, nodeIn, ruleIn}
+use Rattle.rewriting.specs.Decode.{byteOf, recordIn, nodeIn, ruleIn}
 use Rattle.rewriting.specs.Known.{areaOf}
-use Rattle.rewriting.specs.Plans.{ruleFor, readIn, leftWith, fedWith, closedWith}
-use Rattle.rewriting.specs.Steps.{recordIn}
-use Rattle.rewriting.specs.Walks.{tableWith}
+use Rattle.rewriting.specs.Plans.{tableWith, ruleFor, readIn, leftWith, fedWith, closedWith}
 
 -- byte i of record k
 abbrev pub ByteOfClause : (list : List ℕ) (k i : ℕ) → ℕ → Type 0
@@ -24,9 +22,9 @@ ByteOfClause list k i o = o ≡ byteOf list k i
 abbrev pub CountAtClause : (list : List ℕ) (k : ℕ) → ℕ → Type 0
 CountAtClause list k o = (o ≡ count (nodeIn list k)) × (o ≤ 256)
 
--- how many parameters the first n records have
+-- how many parameters the first n records have; of more than 64 the first 64 count
 abbrev pub ParametersInClause : (list : List ℕ) (n : ℕ) → ℕ → Type 0
-ParametersInClause list n o = o ≡ parameters (ruleIn list n)
+ParametersInClause list n o = o ≡ parameters (ruleIn list (min n 64))
 
 -- record k
 abbrev pub RecordAtClause : (list : List ℕ) (k : ℕ) → Record → Type 0

@@ -7,6 +7,7 @@ use lib.ListN.{getD}
 use Rattle.ground.specs.Fold.{tab}
 use Rattle.meaning.specs.Interval.{Interval, between, onward}
 use Rattle.meaning.specs.Rule.{Node, fixed, signal, both, either, next, until, previous, since}
+use Rattle.rewriting.specs.declared.step.Record.{Record}
 
 -- bytes of a record
 abbrev pub recordBytes : ℕ
@@ -32,6 +33,21 @@ nodeOf kind left right low high =
     (cond (eqb kind 7) (until left right (intervalOf low high))
     (cond (eqb kind 8) (previous left (intervalOf low high)) (since left right (intervalOf low high)))))))))
 
+-- the record that bytes hold, as the code keeps it, and as a record of a rule
+unfoldable pub recordIn : List ℕ → ℕ → Record
+recordIn list k =
+    record {
+      kind = byteOf list k 0;
+      left = byteOf list k 1;
+      right = byteOf list k 2;
+      low = byteOf list k 4;
+      high = byteOf list k 5;
+    }
+
+unfoldable pub nodeFor : Record → Node
+nodeFor d = nodeOf (d .kind) (d .left) (d .right) (d .low) (d .high)
+
+-- record k of a list
 unfoldable pub nodeIn : List ℕ → ℕ → Node
 nodeIn list k = nodeOf (byteOf list k 0) (byteOf list k 1) (byteOf list k 2) (byteOf list k 4) (byteOf list k 5)
 

@@ -1,7 +1,5 @@
 pub mod Decode
 pub mod Known
 pub mod Plans
-pub mod Steps
-pub mod Walks
-pub mod Endings
 pub mod Clauses
+pub mod inside

@@ -3,7 +3,9 @@ use mathlib.Core.Path.{_≡_}
 use mathlib.Core.Bool.{Bool}
 use mathlib.Core.List.{List}
 use Prim.Native.Nat.{ℕ, _≤_, _<_}
-use Rattle.forms.specs.Area.{Holds}
+use Rattle.forms.specs.Form.{Form}
+use Rattle.forms.specs.Words.{pack}
+use Rattle.forms.specs.Area.{formIn, putRows, Holds}
 use Rattle.meaning.specs.Rule.{Node, Entry, parameters}
 use Rattle.meaning.specs.Rewriting.{formsOf}
 use Rattle.meaning.specs.Words.{Known, leave, feed, close, valueIfLast}
@@ -34,6 +36,14 @@ pub record Sound (list : List ℕ) (plan : Plan) : Type 0 where
   pub own : plan .m ≡ parameters (ruleIn list (plan .records))
   pub few : plan .m ≤ plan .places
   pub room : plan .places ≤ 12
+
+-- the row of form j of a list
+unfoldable pub formRow : (m : ℕ) → List (Form m) → ℕ → List ℕ
+formRow m rows j = pack m (formIn m rows j)
+
+-- a table with the forms of the rule's first records
+abbrev pub tableWith : List ℕ → ℕ → ℕ → List ℕ → List ℕ
+tableWith list records m ws = putRows ws 0 records (formRow m (formsOf m (ruleIn list records) records))
 
 -- the table holds the forms of the rule's records
 abbrev pub HoldsForms : List ℕ → Plan → List ℕ → Type 0

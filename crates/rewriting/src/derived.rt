@@ -14,7 +14,7 @@ use forms::rows::constant;
 use forms::rows::or;
 use forms::table::put_in;
 ghost use Prim.Native.Nat.{_≤_};
-ghost use Rattle.rewriting.specs.Steps.{Fair, OfNext, OfLater, OfUntil, OfDerived};
+ghost use Rattle.rewriting.specs.inside.Steps.{Fair, OfNext, OfLater, OfUntil, OfDerived};
 
 // Next derived: left's form if the gap is inside, else false; false at the end.
 fn next_row(step: Step, forms: &[u64], k: usize) -> [u64; 64]

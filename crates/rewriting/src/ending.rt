@@ -21,8 +21,8 @@ ghost use lib.ListN.{length};
 ghost use Rattle.ground.specs.Bits.{bit};
 ghost use Rattle.rewriting.specs.Known.{wordsFor};
 ghost use Rattle.rewriting.specs.Plans.{Sound, HoldsForms, Ready};
-ghost use Rattle.rewriting.specs.Steps.{Fair};
-ghost use Rattle.rewriting.specs.Endings.{Settled, lastRows, OfEnd, OfEnds};
+ghost use Rattle.rewriting.specs.inside.Steps.{Fair};
+ghost use Rattle.rewriting.specs.inside.Endings.{Settled, lastRows, OfEnd, OfEnds};
 ghost use Rattle.rewriting.specs.Clauses.{ValueIfLastClause, CloseClause, BeginClause};
 
 // The value of a record's shift at the end, from a setting that has those of the records before.

@@ -6,7 +6,7 @@ use forms::rows::constant;
 use forms::rows::parameter;
 use forms::rows::xor;
 ghost use Prim.Native.Nat.{_≤_};
-ghost use Rattle.rewriting.specs.Steps.{OfRecord};
+ghost use Rattle.rewriting.specs.inside.Steps.{OfRecord};
 
 // The form of record k, with its first parameter, from the forms of the k records before it.
 pub(crate) fn form_row(record: Record, first: usize, m: usize, forms: &[u64], k: usize) -> [u64; 64]

@@ -3,7 +3,7 @@ ghost use mathlib.Core.Path.{_≡_};
 ghost use Prim.Native.Nat.{ℕ, _<_};
 ghost use Rattle.meaning.specs.Interval.{distance, inside as insideOf, shifted, moved as movedBy};
 ghost use Rattle.rewriting.specs.Decode.{intervalOf};
-ghost use Rattle.rewriting.specs.Steps.{movedOf, Near};
+ghost use Rattle.rewriting.specs.inside.Steps.{movedOf, Near};
 
 // What a shift becomes.
 pub(crate) enum Shift {

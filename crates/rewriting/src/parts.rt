@@ -8,7 +8,7 @@ ghost use mathlib.Core.Path.{_≡_};
 ghost use Prim.Native.Nat.{_+_, _≤_};
 ghost use Rattle.forms.specs.Words.{pack};
 ghost use Rattle.meaning.specs.Rewriting.{parameterTo};
-ghost use Rattle.rewriting.specs.Steps.{movedOf, Near, OfRow, OfMoved, OnlyRow, OnlyWithRows};
+ghost use Rattle.rewriting.specs.inside.Steps.{movedOf, Near, OfRow, OfMoved, OnlyRow, OnlyWithRows};
 ghost use Rattle.rewriting.specs.Clauses.{SignalClause};
 
 // Row j of the count rows from base on; false past them.

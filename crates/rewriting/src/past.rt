@@ -15,7 +15,7 @@ use forms::rows::or;
 use forms::rows::parameter;
 use forms::table::put_in;
 ghost use Prim.Native.Nat.{_+_, _≤_};
-ghost use Rattle.rewriting.specs.Steps.{Fair, OfPrevious, OfEarlier, OfSince, OfPast};
+ghost use Rattle.rewriting.specs.inside.Steps.{Fair, OfPrevious, OfEarlier, OfSince, OfPast};
 
 // Previous resolved: left with the derived rows put in, then the past rows; false at the first record.
 fn previous_row(

@@ -1,21 +1,29 @@
 // The records of a rule list, and how many parameters its rule has.
 use crate::step::Record;
-use ground::bytes::byte;
 ghost use mathlib.Core.Path.{_≡_};
-ghost use Prim.Native.Nat.{_<_, _≤_};
+ghost use Prim.Native.Nat.{_≤_};
 ghost use Rattle.meaning.specs.Interval.{shifts};
-ghost use Rattle.rewriting.specs.Decode.{recordBytes, intervalOf};
+ghost use Rattle.rewriting.specs.Decode.{intervalOf};
 ghost use Rattle.rewriting.specs.Clauses.{ByteOfClause, CountAtClause, ParametersInClause, RecordAtClause};
 
 // Bytes of a record.
-const RECORD_BYTES: usize = 8;
+pub const RECORD_BYTES: usize = 8;
 
-// Byte `i` of record `k`.
+// Records of a rule, at most.
+const RECORDS: usize = 64;
+
+// Byte `i` of record `k`; zero past the list's end.
 pub fn byte_of(list: &[u8], k: usize, i: usize) -> u8
-    requires { ⌜ (k < 64) × (i < recordBytes) ⌝ }
     ensures { λ r. ⌜ ByteOfClause (now (list .entry)) k i r ⌝ }
 {
-    byte(list, RECORD_BYTES * k + i)
+    if k > list.len() / RECORD_BYTES {
+        return 0;
+    }
+    let first = RECORD_BYTES * k;
+    if i >= list.len() - first {
+        return 0;
+    }
+    list[first + i]
 }
 
 // How many shifts an interval has: 0 to `high`, or to `low` with no upper end.
@@ -31,7 +39,6 @@ fn shifts_of(low: u8, high: u8) -> usize
 
 // How many parameters record `k` has.
 pub fn count_at(list: &[u8], k: usize) -> usize
-    requires { ⌜ k < 64 ⌝ }
     ensures { λ r. ⌜ CountAtClause (now (list .entry)) k r ⌝ }
 {
     let kind = byte_of(list, k, 0);
@@ -42,13 +49,13 @@ pub fn count_at(list: &[u8], k: usize) -> usize
     }
 }
 
-// How many parameters the first `n` records have.
+// How many parameters the first `n` records have; of more than 64 the first 64 count, for no rule has more.
 pub fn parameters_in(list: &[u8], n: usize) -> usize
-    requires { ⌜ n ≤ 64 ⌝ }
     ensures { λ r. ⌜ ParametersInClause (now (list .entry)) n r ⌝ }
 {
+    let last = if n < RECORDS { n } else { RECORDS };
     let mut sum = 0;
-    for k in 0..n {
+    for k in 0..last {
         sum += count_at(list, k);
     }
     sum
@@ -56,7 +63,6 @@ pub fn parameters_in(list: &[u8], n: usize) -> usize
 
 // Record `k` of the list.
 pub fn record_at(list: &[u8], k: usize) -> Record
-    requires { ⌜ k < 64 ⌝ }
     ensures { λ r. ⌜ RecordAtClause (now (list .entry)) k r ⌝ }
 {
     Record {

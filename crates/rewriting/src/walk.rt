@@ -14,8 +14,8 @@ ghost use Prim.Native.Nat.{_+_, _*_, _≤_, _<_};
 ghost use lib.ListN.{length};
 ghost use Rattle.rewriting.specs.Known.{wordsFor};
 ghost use Rattle.rewriting.specs.Plans.{Sound, HoldsForms, Ready};
-ghost use Rattle.rewriting.specs.Steps.{Fair};
-ghost use Rattle.rewriting.specs.Walks.{Begins, PutsDerived, derivedWith, PutsPast, PastWith};
+ghost use Rattle.rewriting.specs.inside.Steps.{Fair};
+ghost use Rattle.rewriting.specs.inside.Walks.{Begins, PutsDerived, derivedWith, PutsPast, PastWith};
 ghost use Rattle.rewriting.specs.Clauses.{FormsOfClause};
 
 // The forms of the first `records` records of the rule, in a table.
@@ -40,7 +40,6 @@ pub(crate) fn step_at(
     here: Moment,
     neighbour: Neighbour,
 ) -> Step
-    requires { ⌜ k < 64 ⌝ }
     ensures { λ r. ⌜ Begins (now (list .entry)) k first m here neighbour r ⌝ }
 {
     let record = record_at(list, k);

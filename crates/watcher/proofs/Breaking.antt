@@ -3,7 +3,7 @@
 use mathlib.Core.Path.{_≡_, ap, sym, _∙_}
 use mathlib.Core.Bool.{Bool, true, false, not}
 use mathlib.Core.List.{List}
-use Prim.Native.Nat.{ℕ, _+_, _*_, _%_, _^_, _≤_, _<_}
+use Prim.Native.Nat.{ℕ, _+_, _*_, _%_, _^_, _≤_, _<_, min}
 use native.Mathlib.Nat.{le-refl}
 use native.Mathlib.Omega.{arith}
 use borrow.Author.Tests.{not-false}
@@ -17,6 +17,7 @@ use Rattle.meaning.specs.Rule.{parameters}
 use Rattle.rewriting.specs.Decode.{ruleIn}
 use Rattle.rewriting.specs.Known.{pastIn}
 use Rattle.rewriting.specs.Plans.{Sound}
+use Rattle.rewriting.proofs.Counting.{counts-all}
 use Rattle.watcher.specs.declared.state.Watcher.{Watcher}
 use Rattle.watcher.specs.declared.state.Phase.{Phase}
 use Rattle.watcher.specs.declared.state.Phase.the-variants.{Fresh, Running, Closed}
@@ -25,7 +26,7 @@ use Rattle.watcher.specs.Limits.{mostParameters, listBytes}
 use Rattle.watcher.specs.Numbers.{stageOf}
 use Rattle.watcher.specs.State.{ruleOf, parametersOf, startRefuses, notZerosBehind, signalsAbove, bitsAbove}
 use Rattle.watcher.specs.State.{notZeroFrom, wrongRows, wrongInPhase, brokenState}
-use Rattle.watcher.specs.Shapes.{Fitting}
+use Rattle.watcher.specs.inside.Shapes.{Fitting}
 use Rattle.watcher.proofs.HeldLaws.{held-some, held-most, held-kinds, held-few}
 
 -- the bits of a running signal word, by the phase
@@ -82,9 +83,10 @@ sound w m long fine e =
     }
 
 -- the parameters of its rule, counted
-pub own-parameters : (w : Watcher) (m : ℕ) → m ≡ parameters (ruleIn (w .rule) (w .records)) → m ≡ parametersOf w
+pub own-parameters : (w : Watcher) (m : ℕ) → startRefuses w ≡ false
+    → m ≡ parameters (ruleIn (w .rule) (min (w .records) 64)) → m ≡ parametersOf w
 unfolding parametersOf ruleOf
-own-parameters w m e = e
+own-parameters w m a e = counts-all (w .rule) (w .records) m (omega (arith, held-most w a)) e
 
 -- the tests, in the definition's order
 module _ (w : Watcher) (ws : List ℕ) where

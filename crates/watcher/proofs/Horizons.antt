@@ -18,14 +18,13 @@ use Rattle.meaning.specs.Rule.{Node, both, either, since}
 use Rattle.meaning.specs.Horizon.{Horizon, within, never, larger, later, horizonOf, horizons, horizon}
 use Rattle.meaning.proofs.Horizons.{length-horizons, horizons-low, horizons-new}
 use Rattle.rewriting.specs.declared.step.Record.{Record}
-use Rattle.rewriting.specs.Decode.{intervalOf, nodeOf, nodeIn, ruleIn}
-use Rattle.rewriting.specs.Steps.{nodeFor}
+use Rattle.rewriting.specs.Decode.{intervalOf, nodeOf, nodeIn, ruleIn, nodeFor}
 use Rattle.rewriting.proofs.Rules.{length-ruleIn, node-in}
 use Rattle.rewriting.proofs.Nodes.{nodeAs}
 use Rattle.watcher.specs.declared.state.Wait.the-variants.{Forever, Minutes}
 use Rattle.watcher.specs.declared.horizon.Sides.{Sides}
 use Rattle.watcher.specs.Numbers.{horizonFor}
-use Rattle.watcher.specs.Horizons.{codeOf, Coded, Small, OfLarger, OfLater, SidesOf, OfRecord}
+use Rattle.watcher.specs.inside.Horizons.{codeOf, Coded, Small, OfLarger, OfLater, SidesOf, OfRecord}
 
 -- the number 0 is no horizon, and any other is one
 none-code : (x : Horizon) → codeOf x ≡ 0 → x ≡ never

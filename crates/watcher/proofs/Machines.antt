@@ -6,14 +6,16 @@ use mathlib.Core.Logic.{⊎-elim}
 use mathlib.Core.List.{List, [], _∷_}
 use Prim.Native.Nat.{ℕ, zero, suc, _+_, _^_, _≤_, _<_}
 use native.Mathlib.Omega.{arith}
-use lib.ListN.{length, getD, take, drop, length-replicate}
+use lib.ListN.{length, getD, take, drop, replicate, length-take, length-drop, length-replicate}
 use lib.Seq.{getD-drop}
 use Rattle.ground.specs.Fold.{tab}
 use Rattle.ground.proofs.ByteLaws.{little-lt}
 use Rattle.ground.proofs.Folds.{less-or-not}
 use Rattle.ground.proofs.Numbers.{ofBits-lt, zero-at}
 use Rattle.ground.proofs.Tabs.{length-tab, getD-tab, getD-tab-out}
-use Rattle.rewriting.proofs.Placed.{small-areaOf}
+use Rattle.forms.specs.Form.{Form}
+use Rattle.rewriting.specs.Known.{wordsFor, areaOf}
+use Rattle.rewriting.proofs.Placed.{length-areaOf, small-areaOf}
 use Rattle.watcher.specs.declared.state.Watcher.{Watcher}
 use Rattle.watcher.specs.declared.state.Found.{Found}
 use Rattle.watcher.specs.declared.state.Found.the-variants.{Fine, Refused}
@@ -28,29 +30,62 @@ use Rattle.watcher.proofs.Refusing.{length-most}
 use Rattle.watcher.proofs.Testing.{start-passed}
 
 -- a table of bytes
-pub bytes-tab : (n : ℕ) (g : ℕ → ℕ) → ((i : ℕ) → g i < 256) → MachineBytes (tab n g)
-bytes-tab n g h i =
+tab-small : (n : ℕ) (g : ℕ → ℕ) → ((i : ℕ) → g i < 256) → (i : ℕ) → getD (tab n g) i 0 < 256
+tab-small n g h i =
     ⊎-elim (λ l. subst (λ x. x < 256) (sym (getD-tab n g i 0 l)) (h i))
     (λ l. subst (λ x. x < 256) (sym (getD-tab-out n g i 0 l)) (omega arith)) (less-or-not i n)
 
--- the first bytes of some, and those behind them
-pub bytes-take : (n : ℕ) (bytes : List ℕ) → MachineBytes bytes → MachineBytes (take n bytes)
-bytes-take zero bytes h i = omega arith
-bytes-take (suc n) [] h i = omega arith
-bytes-take (suc n) (b ∷ bytes) h zero = h zero
-bytes-take (suc n) (b ∷ bytes) h (suc i) = bytes-take n bytes (λ j. h (suc j)) i
+pub bytes-tab : (n : ℕ) (g : ℕ → ℕ) → n < 2 ^ 63 → ((i : ℕ) → g i < 256) → MachineBytes (tab n g)
+bytes-tab n g f h = record { small = tab-small n g h; few = omega (arith, length-tab n g) }
 
-pub bytes-drop : (n : ℕ) (bytes : List ℕ) → MachineBytes bytes → MachineBytes (drop n bytes)
-bytes-drop n bytes h i = subst (λ x. x < 256) (sym (getD-drop n bytes i 0)) (h (n + i))
+-- the first of some bytes, and those behind them
+pub take-small : (n : ℕ) (bytes : List ℕ) → ((i : ℕ) → getD bytes i 0 < 256) → (i : ℕ) → getD (take n bytes) i 0 < 256
+take-small zero bytes h i = omega arith
+take-small (suc n) [] h i = omega arith
+take-small (suc n) (b ∷ bytes) h zero = h zero
+take-small (suc n) (b ∷ bytes) h (suc i) = take-small n bytes (λ j. h (suc j)) i
+
+pub drop-small : (n : ℕ) (bytes : List ℕ) → ((i : ℕ) → getD bytes i 0 < 256) → (i : ℕ) → getD (drop n bytes) i 0 < 256
+drop-small n bytes h i = subst (λ x. x < 256) (sym (getD-drop n bytes i 0)) (h (n + i))
+
+pub take-bytes : (n : ℕ) (bytes : List ℕ) → MachineBytes bytes → MachineBytes (take n bytes)
+take-bytes n bytes m =
+    record { small = take-small n bytes (m .small); few = omega (arith, length-take n bytes, m .few) }
+
+pub drop-bytes : (n : ℕ) (bytes : List ℕ) → MachineBytes bytes → MachineBytes (drop n bytes)
+drop-bytes n bytes m =
+    record { small = drop-small n bytes (m .small); few = omega (arith, length-drop n bytes, m .few) }
+
+-- a list of zeros, and the list of a state
+zero-bytes : MachineBytes (replicate listBytes 0)
+zero-bytes =
+    record {
+      small = λ i. omega (arith, zero-at listBytes i);
+      few = omega (arith, length-replicate {A = ℕ} listBytes 0);
+    }
+
+padded-bytes : (list : List ℕ) → MachineBytes list → MachineBytes (padded list)
+unfolding padded
+padded-bytes list b = bytes-tab listBytes (λ i. getD list i 0) (omega arith) (b .small)
+
+-- an area that is laid out
+pub area-words : (m : ℕ) (past : List (Form m)) (remainder : Form m)
+    → MachineWords (areaOf mostParameters m past remainder)
+unfolding wordsFor
+area-words m past remainder =
+    record {
+      small = small-areaOf mostParameters m past remainder;
+      few = omega (arith, length-areaOf mostParameters m past remainder);
+    }
 
 pub machine-zero : MachineState zeroState
 unfolding zeroState MachinePhase
 machine-zero =
     record {
       long-rule = length-replicate {A = ℕ} listBytes 0;
-      rule = λ i. omega (arith, zero-at listBytes i);
+      rule = zero-bytes;
       long-list = length-replicate {A = ℕ} listBytes 0;
-      list = λ i. omega (arith, zero-at listBytes i);
+      list = zero-bytes;
       records = omega arith;
       signals = omega arith;
       phase = tt;
@@ -69,9 +104,9 @@ machine-fresh rule signals ws br bs e =
     let l = accepted-list rule signals a in
     record {
       long-rule = length-tab listBytes (λ i. getD rule i 0);
-      rule = bytes-tab listBytes (λ i. getD rule i 0) br;
+      rule = padded-bytes rule br;
       long-list = length-tab listBytes (λ i. getD signals i 0);
-      list = bytes-tab listBytes (λ i. getD signals i 0) bs;
+      list = padded-bytes signals bs;
       records = few-records rule (length-most rule (a .long));
       signals = few-records signals (omega (arith, l .whole, l .most));
       phase = tt;
@@ -89,7 +124,7 @@ machine-running w list signals bytes s b =
       list = s .list;
       records = s .records;
       signals = s .signals;
-      phase = (little-lt bytes 0 4 b, ofBits-lt 16 _);
+      phase = (little-lt bytes 0 4 (b .small), ofBits-lt 16 _);
     }
 
 pub machine-closed : (w : Watcher) (v : Bool) → MachineState w → MachineState (closedState w v)
@@ -113,7 +148,7 @@ machine-start rule signals ws br bs b = go (startRefusal rule signals ws) refl
   where
     go : (f : Found) → startRefusal rule signals ws ≡ f
         → MachineState (startWith f rule signals ws .0 .next) × MachineWords (startWith f rule signals ws .1)
-    go Fine e = (machine-fresh rule signals ws br bs e, small-areaOf mostParameters _ [] _)
+    go Fine e = (machine-fresh rule signals ws br bs e, area-words _ [] _)
     go (Refused r) e = (machine-zero, b)
 
 module _ (w : Watcher) (s : MachineState w) where
@@ -123,7 +158,7 @@ module _ (w : Watcher) (s : MachineState w) where
   machine-feed bytes ws p b = go (feedRefusal w bytes ws)
     where
       go : (f : Found) → MachineState (feedWith f w bytes ws .0 .next) × MachineWords (feedWith f w bytes ws .1)
-      go Fine = (machine-running w (w .list) (w .signals) bytes s p, small-areaOf mostParameters _ _ _)
+      go Fine = (machine-running w (w .list) (w .signals) bytes s p, area-words _ _ _)
       go (Refused r) = (s, b)
 
   pub machine-close : (ws : List ℕ) → MachineWords ws
@@ -132,5 +167,5 @@ module _ (w : Watcher) (s : MachineState w) where
   machine-close ws b = go (closeRefusal w ws)
     where
       go : (f : Found) → MachineState (closeWith f w ws .0 .next) × MachineWords (closeWith f w ws .1)
-      go Fine = (machine-closed w _ s, small-areaOf mostParameters _ _ _)
+      go Fine = (machine-closed w _ s, area-words _ _ _)
       go (Refused r) = (s, b)

@@ -1,10 +1,12 @@
 -- The clause of each public function, `specs/Clauses.antt`, leaves room for one outcome only.
 -- Assumes nothing.
-use mathlib.Core.Path.{_≡_, sym, _∙_}
+use mathlib.Core.Path.{_≡_, sym, ap, _∙_}
 use mathlib.Core.Bool.{Bool}
 use mathlib.Core.List.{List}
 use Prim.Native.Nat.{ℕ}
 use Rattle.ground.proofs.OnlyOne.{only-one}
+use Rattle.meaning.specs.Rule.{Entry}
+use Rattle.rewriting.specs.declared.step.Moment.{Moment}
 use Rattle.watcher.specs.declared.state.Watcher.{Watcher}
 use Rattle.watcher.specs.declared.state.Started.{Started}
 use Rattle.watcher.specs.declared.state.Fed.{Fed}
@@ -14,17 +16,24 @@ use Rattle.watcher.specs.declared.state.Refusal.{Refusal}
 use Rattle.watcher.specs.declared.state.Wait.{Wait}
 use Rattle.watcher.specs.declared.state.Word.{Word}
 use Rattle.watcher.specs.declared.state.Verdict.{Verdict}
+use Rattle.watcher.specs.declared.state.Phase.{Phase}
 use Rattle.watcher.specs.declared.state.Limits.{Limits}
-use Rattle.watcher.specs.Clauses.{LimitsClause, WordClause, ZeroStateClause, CheckListsClause, NumberClause}
-use Rattle.watcher.specs.Clauses.{WrongRecordClause, TimeOfClause, SignalWordClause}
+use Rattle.watcher.specs.Clauses.{LimitsClause, IsRefusedClause, WordClause, LastClause, ZeroStateClause}
+use Rattle.watcher.specs.Clauses.{CheckListsClause, NumberClause, WrongRecordClause, TimeOfClause, SignalWordClause}
 use Rattle.watcher.specs.Clauses.{StartClause, WouldRefuseClause, FeedClause, CloseClause, HorizonClause}
 use Rattle.watcher.proofs.Numbers.{horizon-one}
 
 pub only-limits : (o o′ : Limits) → LimitsClause o → LimitsClause o′ → o ≡ o′
 only-limits = only-one _
 
+pub only-is-refused : (found : Found) (o o′ : Bool) → IsRefusedClause found o → IsRefusedClause found o′ → o ≡ o′
+only-is-refused found = only-one _
+
 pub only-word : (verdict : Verdict) (o o′ : Word) → WordClause verdict o → WordClause verdict o′ → o ≡ o′
 only-word verdict = only-one _
+
+pub only-last : (phase : Phase) (o o′ : Moment) → LastClause phase o → LastClause phase o′ → o ≡ o′
+only-last phase o o′ a b = ap (λ (e : Entry). record { time = e .time; signals = e .signals }) (a ∙ sym b)
 
 pub only-zero-state : (o o′ : Watcher) → ZeroStateClause o → ZeroStateClause o′ → o ≡ o′
 only-zero-state = only-one _

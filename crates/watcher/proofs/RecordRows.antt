@@ -30,16 +30,15 @@ use Rattle.meaning.proofs.Blocks.{firstOf-fits}
 use Rattle.rewriting.specs.declared.step.Moment.{Moment}
 use Rattle.rewriting.specs.declared.step.Plan.{Plan}
 use Rattle.rewriting.specs.declared.step.Record.{Record}
-use Rattle.rewriting.specs.Decode.{byteOf, nodeOf, nodeIn}
+use Rattle.rewriting.specs.Decode.{byteOf, nodeOf, nodeIn, nodeFor}
 use Rattle.rewriting.specs.Known.{formAt, pastIn}
 use Rattle.rewriting.specs.Plans.{Sound, ruleFor, entryFor}
-use Rattle.rewriting.specs.Steps.{nodeFor}
 use Rattle.rewriting.proofs.Nodes.{kind-quiet, kind-future, kind-past}
 use Rattle.rewriting.proofs.Rules.{length-ruleIn, node-in}
 use Rattle.watcher.specs.declared.shape.Here.{Here}
 use Rattle.watcher.specs.Limits.{mostParameters}
 use Rattle.watcher.specs.State.{looksForward, forward, wrongRow, wrongRows}
-use Rattle.watcher.specs.Shapes.{Before, Tells, Placed, Fitting, widened, wrongRecord, RowWrong, RecordWrong}
+use Rattle.watcher.specs.inside.Shapes.{Before, Tells, Placed, Fitting, widened, wrongRecord, RowWrong, RecordWrong}
 
 -- a row that fits is that of its form
 pub row-is : (m : ℕ) (row : List ℕ) → length row ≡ 64 → ((i : ℕ) → Fits w64 (getD row i 0)) → fits m row ≡ true

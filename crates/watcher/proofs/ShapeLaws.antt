@@ -21,14 +21,13 @@ use Rattle.forms.proofs.Packing.{pack-words, pack-inj}
 use Rattle.forms.proofs.Reading.{same-refl, same-eq}
 use Rattle.meaning.specs.Rule.{Node, nodeAt, firstOf, holds}
 use Rattle.rewriting.specs.declared.step.Moment.{Moment}
-use Rattle.rewriting.specs.Decode.{nodeOf}
+use Rattle.rewriting.specs.Decode.{nodeOf, nodeFor}
 use Rattle.rewriting.specs.Plans.{entryFor}
-use Rattle.rewriting.specs.Steps.{nodeFor}
 use Rattle.rewriting.proofs.Nodes.{kind-quiet, kind-future, kind-past}
 use Rattle.watcher.specs.declared.shape.Here.{Here}
 use Rattle.watcher.specs.Limits.{mostParameters}
 use Rattle.watcher.specs.State.{zeroRow, forward, namesOther, wrongRow}
-use Rattle.watcher.specs.Shapes.{Tells}
+use Rattle.watcher.specs.inside.Shapes.{Tells}
 
 -- the same words as those of a row of zeros
 pub zero-words-row : (row : List ℕ) (r : Bool) → r ≡ every 64 (λ i. eqb (getD row i 0) (getD (replicate 64 0) i 0))

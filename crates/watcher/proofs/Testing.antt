@@ -23,7 +23,7 @@ use Rattle.watcher.specs.Records.{wrongRecord, timeOf}
 use Rattle.watcher.specs.State.{brokenState}
 use Rattle.watcher.specs.Calls.{wrongArea, isClosed, isFresh, tooEarly}
 use Rattle.watcher.specs.Calls.{startRefusal, stateTests, feedRefusal, closeRefusal}
-use Rattle.watcher.specs.Turns.{Passed}
+use Rattle.watcher.specs.inside.Turns.{Passed}
 use Rattle.watcher.proofs.Decoded.{first-fine}
 
 pub first-none : Fine ≡ firstRefusal []

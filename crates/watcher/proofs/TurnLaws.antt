@@ -28,7 +28,7 @@ use Rattle.watcher.specs.Numbers.{stageOf}
 use Rattle.watcher.specs.State.{ruleOf, parametersOf, startRefuses, notZerosBehind, signalsAbove, bitsAbove}
 use Rattle.watcher.specs.State.{zeroRow, notZeroFrom, brokenState}
 use Rattle.watcher.specs.Calls.{waitOf}
-use Rattle.watcher.specs.Turns.{planOf, planIn, Passed}
+use Rattle.watcher.specs.inside.Turns.{planOf, planIn, Passed}
 use Rattle.watcher.proofs.Decoded.{neither, fine-tests, length-fine, record-fine, accepted-laid, accepted-few}
 use Rattle.watcher.proofs.HeldLaws.{held-most, held-some, held-few}
 use Rattle.watcher.proofs.Breaking.{sound}

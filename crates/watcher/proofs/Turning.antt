@@ -36,12 +36,12 @@ use Rattle.watcher.specs.declared.state.Ended.{Ended}
 use Rattle.watcher.specs.Limits.{mostRecords, mostParameters, areaWords}
 use Rattle.watcher.specs.Rules.{recordsOf}
 use Rattle.watcher.specs.Records.{timeOf, signalWord, entryOf}
-use Rattle.watcher.specs.Numbers.{saying, verdictFor, stageOf}
+use Rattle.watcher.specs.Numbers.{saying, verdictFor, stageOf, lastIn}
 use Rattle.watcher.specs.State.{ruleOf, parametersOf}
 use Rattle.watcher.specs.Calls.{freshState, zeroState, runningState, closedState, knownNext, knownNow}
 use Rattle.watcher.specs.Calls.{startRefusal, startWith, startOf, feedRefusal, feedWith, feedOf}
 use Rattle.watcher.specs.Calls.{closeRefusal, closeWith, closeOf}
-use Rattle.watcher.specs.Turns.{planOn, planOf, planIn, rewrittenOf, lastIn, endedState, begunOf}
+use Rattle.watcher.specs.inside.Turns.{planOn, planOf, planIn, rewrittenOf, endedState, begunOf}
 
 -- the word of a form by which constant it is
 module _ (m : ℕ) (f : Form m) (t : Truth) (is : t ≡ whichConstant m f) where

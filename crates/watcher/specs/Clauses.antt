@@ -3,6 +3,8 @@ use mathlib.Core.Path.{_≡_}
 use mathlib.Core.Bool.{Bool}
 use mathlib.Core.List.{List}
 use Prim.Native.Nat.{ℕ}
+use Rattle.rewriting.specs.declared.step.Moment.{Moment}
+use Rattle.rewriting.specs.Plans.{entryFor}
 use Rattle.watcher.specs.declared.state.Watcher.{Watcher}
 use Rattle.watcher.specs.declared.state.Started.{Started}
 use Rattle.watcher.specs.declared.state.Fed.{Fed}
@@ -12,11 +14,13 @@ use Rattle.watcher.specs.declared.state.Refusal.{Refusal}
 use Rattle.watcher.specs.declared.state.Wait.{Wait}
 use Rattle.watcher.specs.declared.state.Word.{Word}
 use Rattle.watcher.specs.declared.state.Verdict.{Verdict}
+use Rattle.watcher.specs.declared.state.Phase.{Phase}
 use Rattle.watcher.specs.declared.state.Limits.{Limits}
 use Rattle.watcher.specs.Limits.{limitsOf}
 use Rattle.watcher.specs.Lists.{listsRefusal}
 use Rattle.watcher.specs.Records.{wrongRecord, timeOf, signalWord}
-use Rattle.watcher.specs.Numbers.{refusalNumber, verdictValue, horizonFor}
+use Rattle.watcher.specs.Numbers.{refusalNumber, verdictValue, stageOf, lastIn, horizonFor}
+use Rattle.watcher.specs.State.{isRefused}
 use Rattle.watcher.specs.Calls.{zeroState, startOf, feedRefusal, feedOf, closeOf, waitOf}
 use Rattle.watcher.specs.Runs.{decided}
 
@@ -24,9 +28,17 @@ use Rattle.watcher.specs.Runs.{decided}
 abbrev pub LimitsClause : Limits → Type 0
 LimitsClause o = o ≡ limitsOf
 
+-- whether something is refused
+abbrev pub IsRefusedClause : Found → Bool → Type 0
+IsRefusedClause found o = o ≡ isRefused found
+
 -- the word that says what a verdict says
 abbrev pub WordClause : Verdict → Word → Type 0
 WordClause verdict o = o ≡ decided (verdictValue verdict)
+
+-- a phase's last record
+abbrev pub LastClause : Phase → Moment → Type 0
+LastClause phase o = entryFor o ≡ lastIn (stageOf phase)
 
 -- a fresh state of zeros
 abbrev pub ZeroStateClause : Watcher → Type 0

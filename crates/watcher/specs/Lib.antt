@@ -9,7 +9,5 @@ pub mod State
 pub mod Calls
 pub mod Runs
 pub mod Machine
-pub mod Shapes
-pub mod Turns
-pub mod Horizons
 pub mod Clauses
+pub mod inside

@@ -1,20 +1,22 @@
--- What a machine can hand in: bytes below 256, words below 2^64, and states whose fields fit theirs.
+-- What a machine can hand in: slices of bytes and of words, and states whose numbers fit their types.
 use mathlib.Core.Path.{_≡_}
 use mathlib.Core.List.{List}
-use Prim.Native.Nat.{ℕ, _^_, _<_}
+use Prim.Native.Nat.{ℕ, _*_, _^_, _<_}
 use lib.ListN.{length, getD}
 use Rattle.watcher.specs.declared.state.Watcher.{Watcher}
 use Rattle.watcher.specs.declared.state.Phase.{Phase}
 use Rattle.watcher.specs.declared.state.Phase.the-variants.{Fresh, Running, Closed}
 use Rattle.watcher.specs.Limits.{listBytes}
 
--- every byte is below 256
-abbrev pub MachineBytes : List ℕ → Type 0
-MachineBytes bytes = (i : ℕ) → getD bytes i 0 < 256
+-- bytes: each is below 256, and no slice has 2^63 of them
+pub record MachineBytes (bytes : List ℕ) : Type 0 where
+  pub small : (i : ℕ) → getD bytes i 0 < 256
+  pub few : length bytes < 2 ^ 63
 
--- every word is below 2^64
-abbrev pub MachineWords : List ℕ → Type 0
-MachineWords ws = (i : ℕ) → getD ws i 0 < 2 ^ 64
+-- words of 8 bytes: each is below 2^64
+pub record MachineWords (ws : List ℕ) : Type 0 where
+  pub small : (i : ℕ) → getD ws i 0 < 2 ^ 64
+  pub few : length ws * 8 < 2 ^ 63
 
 -- a running state's time has 32 bits, and its signals 16
 unfoldable pub MachinePhase : Phase → Type 0

@@ -58,6 +58,12 @@ stageOf phase.Fresh = fresh
 stageOf (phase.Running time signals) = running (record { time = time; signals = signals })
 stageOf (phase.Closed v) = closed (verdictValue v)
 
+-- the last record; zeros where there is none
+unfoldable pub lastIn : Stage → Entry
+lastIn fresh = record { time = 0; signals = 0 }
+lastIn (running e) = e
+lastIn (closed b) = record { time = 0; signals = 0 }
+
 -- the refusal numbers
 unfoldable pub refusalNumber : Refusal → ℕ
 refusalNumber RuleLength = 1

@@ -20,7 +20,6 @@ use crate::state::Wait;
 use crate::state::Watcher;
 use crate::turns::begin_area;
 use crate::turns::close_area;
-use crate::turns::last_of;
 use crate::turns::padded;
 use crate::turns::rewrite_area;
 use crate::turns::word_of;
@@ -34,7 +33,7 @@ ghost use Rattle.watcher.specs.Limits.{areaWords};
 ghost use Rattle.watcher.specs.Lists.{listsRefusal};
 ghost use Rattle.watcher.specs.Calls.{freshState, runningState};
 ghost use Rattle.watcher.specs.Calls.{startWith, feedWith, closeWith};
-ghost use Rattle.watcher.specs.Turns.{Passed, endedState};
+ghost use Rattle.watcher.specs.inside.Turns.{Passed, endedState};
 ghost use Rattle.watcher.specs.Numbers.{verdictFor};
 ghost use Rattle.watcher.specs.Clauses.{StartClause, WouldRefuseClause, FeedClause, CloseClause, HorizonClause};
 
@@ -132,7 +131,7 @@ fn finish(watcher: Watcher, area: &mut [u64]) -> Ended
     ensures { λ r. ⌜ (r, now (area .exit)) ≡ closeWith Fine watcher (now (area .entry)) ⌝ }
 {
     let phase = watcher.phase;
-    let value = close_area(watcher, last_of(phase), area);
+    let value = close_area(watcher, phase.last(), area);
     let verdict = verdict_for(value);
     Ended {
         answer: End::Closed(verdict),

@@ -1,6 +1,5 @@
 // What a state's lists hold: the parts of check 12 that read no row.
 use crate::refusals::check_lists;
-use crate::state::Found;
 use crate::state::Phase;
 use crate::state::Watcher;
 use ground::bytes::zeros_from;
@@ -12,16 +11,6 @@ ghost use Rattle.watcher.specs.Lists.{listsRefusal};
 ghost use Rattle.watcher.specs.Numbers.{stageOf};
 ghost use Rattle.watcher.specs.State.{isRefused, startRefuses, notZerosBehind, signalsAbove};
 
-// Whether something is found.
-fn is_refused(found: Found) -> bool
-    ensures { λ r. ⌜ r ≡ isRefused found ⌝ }
-{
-    match found {
-        Found::Fine => false,
-        Found::Refused(_) => true,
-    }
-}
-
 // Whether start would refuse the rule in the first n bytes, with the list in the first k.
 fn lists_refuse(rule: &[u8], n: usize, list: &[u8], k: usize) -> bool
     requires { ⌜ (n ≤ length (now rule)) × (k ≤ length (now list)) ⌝ }
@@ -29,7 +18,7 @@ fn lists_refuse(rule: &[u8], n: usize, list: &[u8], k: usize) -> bool
 {
     let held = &rule[..n];
     let listed = &list[..k];
-    is_refused(check_lists(held, listed))
+    check_lists(held, listed).is_refused()
 }
 
 // Whether the state holds a rule or list that start would refuse.

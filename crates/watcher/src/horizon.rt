@@ -10,7 +10,7 @@ ghost use Rattle.meaning.specs.Horizon.{horizon};
 ghost use Rattle.rewriting.specs.Decode.{ruleIn};
 ghost use Rattle.watcher.specs.Limits.{mostRecords};
 ghost use Rattle.watcher.specs.Numbers.{horizonFor};
-ghost use Rattle.watcher.specs.Horizons.{Small, OfLarger, OfLater, SidesOf, OfRecord};
+ghost use Rattle.watcher.specs.inside.Horizons.{Small, OfLarger, OfLater, SidesOf, OfRecord};
 
 // The entries that a record's own is made from.
 struct Sides {

@@ -33,7 +33,7 @@ ghost use Rattle.watcher.specs.Limits.{mostParameters};
 ghost use Rattle.watcher.specs.Numbers.{stageOf};
 ghost use Rattle.watcher.specs.State.{parametersOf, startRefuses, bitsAbove, zeroRow, notZeroFrom};
 ghost use Rattle.watcher.specs.State.{wrongRows, wrongInPhase, brokenState};
-ghost use Rattle.watcher.specs.Shapes.{Before, Tells, Placed, Fitting, widened, RowWrong, RecordWrong};
+ghost use Rattle.watcher.specs.inside.Shapes.{Before, Tells, Placed, Fitting, widened, RowWrong, RecordWrong};
 
 // A record of the rule, its first parameter, how many it has, and the parameters that its rows may name, as bits.
 pub(crate) struct Here {

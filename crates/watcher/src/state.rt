@@ -1,5 +1,7 @@
 // The watcher's state, its limits, and its answers.
-ghost use Rattle.watcher.specs.Clauses.{LimitsClause, WordClause, ZeroStateClause};
+use rewriting::rule::RECORD_BYTES;
+use rewriting::step::Moment;
+ghost use Rattle.watcher.specs.Clauses.{LimitsClause, IsRefusedClause, WordClause, LastClause, ZeroStateClause};
 
 // The word after a record.
 pub enum Word {
@@ -104,6 +106,18 @@ pub struct Limits {
     pub words: usize,
 }
 
+impl Found {
+    // Whether something is refused.
+    pub fn is_refused(self) -> bool
+        ensures { λ r. ⌜ IsRefusedClause self r ⌝ }
+    {
+        match self {
+            Found::Fine => false,
+            Found::Refused(_) => true,
+        }
+    }
+}
+
 impl Verdict {
     // The word that says the same.
     pub fn word(self) -> Word
@@ -116,6 +130,25 @@ impl Verdict {
     }
 }
 
+impl Phase {
+    // The last record; zeros where there is none.
+    pub fn last(self) -> Moment
+        ensures { λ r. ⌜ LastClause self r ⌝ }
+    {
+        match self {
+            Phase::Fresh => Moment {
+                time: 0,
+                signals: 0,
+            },
+            Phase::Running { time, signals } => Moment { time, signals },
+            Phase::Closed(_) => Moment {
+                time: 0,
+                signals: 0,
+            },
+        }
+    }
+}
+
 impl Watcher {
     pub const RECORDS: usize = 16;
 
@@ -123,7 +156,7 @@ impl Watcher {
 
     pub const PARAMETERS: usize = 12;
 
-    pub const RECORD_BYTES: usize = 8;
+    pub const RECORD_BYTES: usize = RECORD_BYTES;
 
     pub const LIST_BYTES: usize = Self::RECORDS * Self::RECORD_BYTES;
 
@@ -152,6 +185,7 @@ impl Watcher {
             words: Self::WORDS,
         }
     }
+
     // A fresh state of zeros.
     pub fn zero_state() -> Watcher
         ensures { λ r. ⌜ ZeroStateClause r ⌝ }

@@ -17,13 +17,13 @@ ghost use Prim.Native.Nat.{_≤_};
 ghost use lib.ListN.{length};
 ghost use Rattle.meaning.specs.Words.{word};
 ghost use Rattle.forms.specs.Rows.{OfForm};
-ghost use Rattle.rewriting.specs.Plans.{Sound, HoldsForms, readIn, entryFor, closedWith};
+ghost use Rattle.rewriting.specs.Plans.{Sound, HoldsForms, readIn, closedWith};
 ghost use Rattle.watcher.specs.Limits.{mostRecords, mostParameters, areaWords};
-ghost use Rattle.watcher.specs.Numbers.{saying, stageOf};
+ghost use Rattle.watcher.specs.Numbers.{saying};
 ghost use Rattle.watcher.specs.Rules.{recordsOf};
 ghost use Rattle.watcher.specs.State.{ruleOf, parametersOf};
 ghost use Rattle.watcher.specs.Calls.{padded as paddedOf};
-ghost use Rattle.watcher.specs.Turns.{planOn, planOf, planIn, Passed, rewrittenOf, lastIn, begunOf};
+ghost use Rattle.watcher.specs.inside.Turns.{planOn, planOf, planIn, Passed, rewrittenOf, begunOf};
 
 // A list with zeros behind it.
 pub(crate) fn padded(list: &[u8]) -> [u8; Watcher::LIST_BYTES]
@@ -34,23 +34,6 @@ pub(crate) fn padded(list: &[u8]) -> [u8; Watcher::LIST_BYTES]
         bytes[i] = byte(list, i);
     }
     bytes
-}
-
-// The last record of a state that has one.
-pub(crate) fn last_of(phase: Phase) -> Moment
-    ensures { λ r. ⌜ entryFor r ≡ lastIn (stageOf phase) ⌝ }
-{
-    match phase {
-        Phase::Fresh => Moment {
-            time: 0,
-            signals: 0,
-        },
-        Phase::Running { time, signals } => Moment { time, signals },
-        Phase::Closed(_) => Moment {
-            time: 0,
-            signals: 0,
-        },
-    }
 }
 
 // The word of a remainder.

@@ -5,7 +5,7 @@ use Prim.Native.Nat.{_<_}
 use native.Mathlib.Omega.{arith}
 use borrow.Author.Needs.{needs}
 use Rattle.ground.proofs.Bits.{one-shl}
-use Rattle.forms.specs.Steps.{Alone}
+use Rattle.forms.specs.inside.Steps.{Alone}
 use Rattle.forms.proofs.Packing.{term-room}
 use Rattle.forms.proofs.Making.{parameter-row, parameter-far, parameter-past}
 use Rattle.forms.proofs.rows.parameter.Statement.{statement}

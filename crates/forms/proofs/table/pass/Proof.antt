@@ -5,7 +5,7 @@ use Prim.Native.Nat.{ℕ, _-_, _^_, _≤_, _<_}
 use native.Mathlib.Omega.{arith}
 use borrow.Author.Needs.{needs}
 use lib.ListN.{length, getD}
-use Rattle.forms.specs.Steps.{PassedWord}
+use Rattle.forms.specs.inside.Steps.{PassedWord}
 use Rattle.forms.proofs.Passing.{passed-more, passed-row}
 use Rattle.forms.proofs.table.pass.Statement.{statement}
 use Rattle.forms.proofs.table.pass.Tie as tie

@@ -9,7 +9,7 @@ use lib.ListN.{length}
 use Rattle.forms.specs.Form.{Form}
 use Rattle.forms.specs.Words.{most}
 use Rattle.forms.specs.Area.{formIn, Holds}
-use Rattle.forms.specs.Steps.{Tables, onlyNamed}
+use Rattle.forms.specs.inside.Steps.{Tables, onlyNamed}
 use Rattle.forms.proofs.Widening.{tables-more}
 use Rattle.forms.proofs.table.tables.Statement.{statement}
 use Rattle.forms.proofs.table.tables.Tie as tie

@@ -1,6 +1,8 @@
 -- `rows::rows_of` counts the parameters of a rule.
 -- Assumes nothing.
+use native.Mathlib.Omega.{arith}
 use borrow.Author.Needs.{needs}
+use Rattle.rewriting.proofs.Counting.{counts-all}
 use Rattle.watcher.specs.State.{ruleOf, parametersOf}
 use Rattle.lines.proofs.RowLaws.{rows-none, rows-some}
 use Rattle.lines.proofs.rows.rows_of.Statement.{statement}
@@ -19,7 +21,7 @@ parameters-in-requires c κs = search needs
 returns-2 : tie.Need-returns-2
 unfolding parametersOf ruleOf
 returns-2 c =
-    rows-some _ _ (c .before .before .if1 .left) (c .parameters-in .ensures)
+    rows-some _ _ (c .before .before .if1 .left) (counts-all _ _ _ (omega arith) (c .parameters-in .ensures))
 
 pub rows-of-spec : {M : Type 1} → statement M
 rows-of-spec =

@@ -19,8 +19,8 @@ Inv-loop state bytes₀ last number i₀ bytes i =
 abbrev μ-loop : tie.MeasureT-loop
 μ-loop state bytes₀ last number i₀ bytes i = stateBytes - i
 
-last-in-requires : tie.Need-last-in-requires Inv-loop μ-loop
-last-in-requires c κs = search needs
+last-requires : tie.Need-last-requires Inv-loop μ-loop
+last-requires c κs = search needs
 
 phase-number-requires : tie.Need-phase-number-requires Inv-loop μ-loop
 phase-number-requires c κs = search needs
@@ -68,7 +68,7 @@ loop-again c =
     let c₁₀ = c .before .before .before .before .before .before .before .before .before .before in
     let parts = c₁₀ .before .before .before in
     let state = parts .before .before .before .before .before .args .state in
-    let made = byte-made state _ _ _ _ (p .0) (parts .before .last-in .ensures) (parts .phase-number .ensures)
+    let made = byte-made state _ _ _ _ (p .0) (parts .before .last .ensures) (parts .phase-number .ensures)
     (c .number-byte .ensures) in (
       search needs,
       search needs,
@@ -90,7 +90,7 @@ write-state-spec =
     (tie.spec
     Inv-loop
     μ-loop
-    last-in-requires
+    last-requires
     phase-number-requires
     slice-aggregate-put-list
     put-list-requires

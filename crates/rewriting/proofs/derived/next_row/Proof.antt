@@ -1,7 +1,7 @@
 -- `derived::next_row` tells a neighbour from none.
 -- Assumes nothing.
 use borrow.Author.Needs.{needs}
-use Rattle.rewriting.specs.Steps.{intervalIn}
+use Rattle.rewriting.specs.inside.Steps.{intervalIn}
 use Rattle.rewriting.proofs.Neighbours.{next-none, next-at}
 use Rattle.rewriting.proofs.derived.next_row.Statement.{statement}
 use Rattle.rewriting.proofs.derived.next_row.Tie as tie

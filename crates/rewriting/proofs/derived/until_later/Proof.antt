@@ -2,7 +2,7 @@
 -- Assumes nothing.
 use borrow.Author.Needs.{needs}
 use Rattle.meaning.specs.Rewriting.{put}
-use Rattle.rewriting.specs.Steps.{intervalIn}
+use Rattle.rewriting.specs.inside.Steps.{intervalIn}
 use Rattle.rewriting.proofs.Neighbours.{later-none, later-at}
 use Rattle.rewriting.proofs.derived.until_later.Statement.{statement}
 use Rattle.rewriting.proofs.derived.until_later.Tie as tie

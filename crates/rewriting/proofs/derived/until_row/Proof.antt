@@ -1,7 +1,7 @@
 -- `derived::until_row` joins both parts.
 -- Assumes nothing.
 use borrow.Author.Needs.{needs}
-use Rattle.rewriting.specs.Steps.{intervalIn, untilOf}
+use Rattle.rewriting.specs.inside.Steps.{intervalIn, untilOf}
 use Rattle.rewriting.proofs.Neighbours.{test-same}
 use Rattle.rewriting.proofs.derived.until_row.Statement.{statement}
 use Rattle.rewriting.proofs.derived.until_row.Tie as tie

@@ -3,7 +3,7 @@
 use native.Mathlib.Omega.{arith}
 use mathlib.Core.Path.{refl}
 use borrow.Author.Needs.{needs}
-use Rattle.rewriting.specs.Steps.{intervalIn}
+use Rattle.rewriting.specs.inside.Steps.{intervalIn}
 use Rattle.rewriting.proofs.Endings.{end-signal, end-quiet, end-inside, end-outside, end-past}
 use Rattle.rewriting.proofs.ending.end_value.Statement.{statement}
 use Rattle.rewriting.proofs.ending.end_value.Tie as tie

@@ -2,7 +2,7 @@
 -- Assumes nothing.
 use Prim.Native.Nat.{_-_, _≤_}
 use borrow.Author.Needs.{needs}
-use Rattle.rewriting.specs.Endings.{OfEnds}
+use Rattle.rewriting.specs.inside.Endings.{OfEnds}
 use Rattle.rewriting.proofs.Endings.{ends-none, ends-more, ends-done}
 use Rattle.rewriting.proofs.ending.end_values.Statement.{statement}
 use Rattle.rewriting.proofs.ending.end_values.Tie as tie

@@ -7,7 +7,7 @@ use borrow.Author.Needs.{needs}
 use Rattle.meaning.specs.Rule.{firstOf}
 use Rattle.rewriting.specs.declared.step.Neighbour.the-variants.{None}
 use Rattle.rewriting.specs.Plans.{ruleFor}
-use Rattle.rewriting.specs.Endings.{Settled, lastRows}
+use Rattle.rewriting.specs.inside.Endings.{Settled, lastRows}
 use Rattle.rewriting.proofs.Counting.{firstOf-rule}
 use Rattle.rewriting.proofs.Walking.{block-fits, step-ready}
 use Rattle.rewriting.proofs.Lasting.{last-none, last-more, last-done}

@@ -1,7 +1,7 @@
 -- `interval::moved` adds the gap, and stops or goes at the end of the interval.
 -- Assumes nothing.
 use borrow.Author.Needs.{needs}
-use Rattle.rewriting.specs.Steps.{movedOf, Near}
+use Rattle.rewriting.specs.inside.Steps.{movedOf, Near}
 use Rattle.rewriting.proofs.Ends.{moved-before, moved-low, moved-on, moved-past}
 use Rattle.rewriting.proofs.interval.moved.Statement.{statement}
 use Rattle.rewriting.proofs.interval.moved.Tie as tie

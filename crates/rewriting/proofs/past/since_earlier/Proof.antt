@@ -2,7 +2,7 @@
 -- Assumes nothing.
 use borrow.Author.Needs.{needs}
 use Rattle.meaning.specs.Rewriting.{put}
-use Rattle.rewriting.specs.Steps.{intervalIn}
+use Rattle.rewriting.specs.inside.Steps.{intervalIn}
 use Rattle.rewriting.proofs.Neighbours.{earlier-none, earlier-at}
 use Rattle.rewriting.proofs.past.since_earlier.Statement.{statement}
 use Rattle.rewriting.proofs.past.since_earlier.Tie as tie

@@ -1,7 +1,7 @@
 -- `past::since_row` joins both parts.
 -- Assumes nothing.
 use borrow.Author.Needs.{needs}
-use Rattle.rewriting.specs.Steps.{intervalIn, sinceOf}
+use Rattle.rewriting.specs.inside.Steps.{intervalIn, sinceOf}
 use Rattle.rewriting.proofs.Neighbours.{test-same}
 use Rattle.rewriting.proofs.past.since_row.Statement.{statement}
 use Rattle.rewriting.proofs.past.since_row.Tie as tie

@@ -1,7 +1,7 @@
 -- `rewrite::feed` meets its contract: derived rows, the remainder, past rows, and the scratch cleared.
 -- Assumes nothing.
 use borrow.Author.Needs.{needs}
-use Rattle.rewriting.specs.Steps.{neighbourOf}
+use Rattle.rewriting.specs.inside.Steps.{neighbourOf}
 use Rattle.rewriting.proofs.Rewritten.{feed-done}
 use Rattle.rewriting.proofs.rewrite.feed.Statement.{statement}
 use Rattle.rewriting.proofs.rewrite.feed.Tie as tie

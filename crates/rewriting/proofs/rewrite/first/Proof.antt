@@ -1,7 +1,7 @@
 -- `rewrite::first` meets its contract: past rows with no derived rows, and the scratch cleared.
 -- Assumes nothing.
 use borrow.Author.Needs.{needs}
-use Rattle.rewriting.specs.Steps.{neighbourOf}
+use Rattle.rewriting.specs.inside.Steps.{neighbourOf}
 use Rattle.rewriting.proofs.Rewritten.{first-done}
 use Rattle.rewriting.proofs.rewrite.first.Statement.{statement}
 use Rattle.rewriting.proofs.rewrite.first.Tie as tie

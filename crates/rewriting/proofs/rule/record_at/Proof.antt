@@ -1,7 +1,7 @@
 -- `rule::record_at` meets its contract: the five bytes that a record has.
 -- Assumes nothing.
 use borrow.Author.Needs.{needs}
-use Rattle.rewriting.specs.Steps.{recordIn}
+use Rattle.rewriting.specs.Decode.{recordIn}
 use Rattle.rewriting.proofs.rule.record_at.Statement.{statement}
 use Rattle.rewriting.proofs.rule.record_at.Tie as tie
 

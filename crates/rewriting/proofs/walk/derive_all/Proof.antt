@@ -7,8 +7,8 @@ use lib.ListN.{length}
 use borrow.Author.Needs.{needs}
 use Rattle.forms.specs.Area.{putRows}
 use Rattle.meaning.specs.Rule.{firstOf}
-use Rattle.rewriting.specs.Plans.{ruleFor}
-use Rattle.rewriting.specs.Walks.{formRow, derivedFor}
+use Rattle.rewriting.specs.Plans.{ruleFor, formRow}
+use Rattle.rewriting.specs.inside.Walks.{derivedFor}
 use Rattle.rewriting.proofs.Counting.{firstOf-rule}
 use Rattle.rewriting.proofs.Walking.{block-fits, step-ready, derived-block, walked-all}
 use Rattle.rewriting.proofs.Written.{wrote-none}
@@ -30,10 +30,10 @@ unfolding firstOf
 loop-holds c = (search needs, search needs, refl, wrote-none _ _ _)
 
 step-at-requires : tie.Need-step-at-requires Inv-loop μ-loop
-step-at-requires c κs = omega (arith, c .before .before .before .before .before .pre .0 .most)
+step-at-requires c κs = search needs
 
 count-at-requires : tie.Need-count-at-requires Inv-loop μ-loop
-count-at-requires c κs = omega (arith, c .before .before .before .before .before .before .pre .0 .most)
+count-at-requires c κs = search needs
 
 add-derive-record : tie.Need-add-derive-record Inv-loop μ-loop
 add-derive-record c =

@@ -7,8 +7,8 @@ use native.Mathlib.Nat.{le-refl}
 use native.Mathlib.Omega.{arith}
 use lib.ListN.{length}
 use borrow.Author.Needs.{needs}
-use Rattle.rewriting.specs.Steps.{entryIn, derivedOf}
-use Rattle.rewriting.specs.Walks.{derivedAt, PutsDerived}
+use Rattle.rewriting.specs.inside.Steps.{entryIn, derivedOf}
+use Rattle.rewriting.specs.inside.Walks.{derivedAt, PutsDerived}
 use Rattle.rewriting.proofs.Written.{wrote-none, wrote-more, wrote-all, held-kept}
 use Rattle.rewriting.proofs.walk.derive_record.Statement.{statement}
 use Rattle.rewriting.proofs.walk.derive_record.Tie as tie

@@ -9,7 +9,7 @@ use Rattle.forms.specs.Area.{putRows}
 use Rattle.meaning.specs.Rule.{firstOf}
 use Rattle.meaning.specs.Rewriting.{formsOf}
 use Rattle.rewriting.specs.Decode.{ruleIn}
-use Rattle.rewriting.specs.Walks.{formRow}
+use Rattle.rewriting.specs.Plans.{formRow}
 use Rattle.rewriting.proofs.Counting.{firstOf-rule}
 use Rattle.rewriting.proofs.Tables.{forms-row}
 use Rattle.rewriting.proofs.Written.{wrote-none, wrote-more, wrote-all}

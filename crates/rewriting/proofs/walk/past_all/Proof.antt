@@ -9,8 +9,8 @@ use borrow.Author.Needs.{needs}
 use Rattle.forms.specs.Form.{Form}
 use Rattle.forms.specs.Area.{putRows, Holds}
 use Rattle.meaning.specs.Rule.{firstOf}
-use Rattle.rewriting.specs.Plans.{ruleFor}
-use Rattle.rewriting.specs.Walks.{formRow, pastFor}
+use Rattle.rewriting.specs.Plans.{ruleFor, formRow}
+use Rattle.rewriting.specs.inside.Walks.{pastFor}
 use Rattle.rewriting.proofs.Counting.{firstOf-rule}
 use Rattle.rewriting.proofs.Walking.{block-fits, step-ready, past-block, walked-all}
 use Rattle.rewriting.proofs.Written.{wrote-none}
@@ -33,10 +33,10 @@ unfolding firstOf
 loop-holds c = (search needs, search needs, refl, λ derived hd. wrote-none _ _ _)
 
 step-at-requires : tie.Need-step-at-requires Inv-loop μ-loop
-step-at-requires c κs = omega (arith, c .before .before .before .before .before .pre .0 .most)
+step-at-requires c κs = search needs
 
 count-at-requires : tie.Need-count-at-requires Inv-loop μ-loop
-count-at-requires c κs = omega (arith, c .before .before .before .before .before .before .pre .0 .most)
+count-at-requires c κs = search needs
 
 add-past-record : tie.Need-add-past-record Inv-loop μ-loop
 add-past-record c =

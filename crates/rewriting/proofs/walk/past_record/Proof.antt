@@ -6,8 +6,8 @@ use Prim.Native.Nat.{_-_, _≤_}
 use native.Mathlib.Omega.{arith}
 use lib.ListN.{length}
 use borrow.Author.Needs.{needs}
-use Rattle.rewriting.specs.Steps.{entryIn, pastOf}
-use Rattle.rewriting.specs.Walks.{pastAt, PutsPast}
+use Rattle.rewriting.specs.inside.Steps.{entryIn, pastOf}
+use Rattle.rewriting.specs.inside.Walks.{pastAt, PutsPast}
 use Rattle.rewriting.proofs.Written.{wrote-none, wrote-more, wrote-all, held-kept}
 use Rattle.rewriting.proofs.walk.past_record.Statement.{statement}
 use Rattle.rewriting.proofs.walk.past_record.Tie as tie

@@ -1,7 +1,7 @@
 -- `calls::closed_state` keeps the lists.
 -- Assumes nothing.
 use borrow.Author.Needs.{needs}
-use Rattle.watcher.specs.Turns.{endedState}
+use Rattle.watcher.specs.inside.Turns.{endedState}
 use Rattle.watcher.proofs.calls.closed_state.Statement.{statement}
 use Rattle.watcher.proofs.calls.closed_state.Tie as tie
 

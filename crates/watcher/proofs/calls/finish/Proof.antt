@@ -5,8 +5,8 @@ use Rattle.watcher.proofs.Turning.{finish-done}
 use Rattle.watcher.proofs.calls.finish.Statement.{statement}
 use Rattle.watcher.proofs.calls.finish.Tie as tie
 
-last-of-requires : tie.Need-last-of-requires
-last-of-requires c κs = search needs
+last-requires : tie.Need-last-requires
+last-requires c κs = search needs
 
 close-area-requires : tie.Need-close-area-requires
 close-area-requires c κs = c .before .before .before .pre
@@ -24,14 +24,14 @@ returns : tie.Need-returns
 returns c =
     let c₄ = c .before .before .before .before in
     let c₆ = c₄ .before .before in
-    finish-done _ _ _ _ _ _ _ (c₆ .last-of .ensures) (c₄ .close-area .ensures) (c .before .verdict-for .ensures)
+    finish-done _ _ _ _ _ _ _ (c₆ .last .ensures) (c₄ .close-area .ensures) (c .before .verdict-for .ensures)
     (c .closed-state .ensures)
 
 pub finish-spec : {M : Type 1} → statement M
 finish-spec =
     tie.close
     (tie.spec
-    last-of-requires
+    last-requires
     close-area-requires
     verdict-for-requires
     closed-state-requires

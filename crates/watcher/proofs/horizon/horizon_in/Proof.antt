@@ -8,7 +8,7 @@ use lib.ListN.{length}
 use Rattle.meaning.specs.Horizon.{horizons}
 use Rattle.rewriting.specs.Decode.{ruleIn}
 use Rattle.watcher.specs.Limits.{mostRecords}
-use Rattle.watcher.specs.Horizons.{Coded, Small}
+use Rattle.watcher.specs.inside.Horizons.{Coded, Small}
 use Rattle.watcher.proofs.Horizons.{coded-none, coded-more, small-none, small-more}
 use Rattle.watcher.proofs.Horizons.{waits-forever, waits-minutes}
 use Rattle.rewriting.proofs.Rules.{record-node}

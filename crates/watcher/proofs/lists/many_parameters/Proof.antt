@@ -2,6 +2,7 @@
 -- Assumes nothing.
 use native.Mathlib.Omega.{arith}
 use borrow.Author.Needs.{needs}
+use Rattle.rewriting.proofs.Counting.{counts-all}
 use Rattle.watcher.proofs.Decoded.{parameters-all}
 use Rattle.watcher.proofs.Checking.{records-few}
 use Rattle.watcher.proofs.lists.many_parameters.Statement.{statement}
@@ -11,10 +12,13 @@ records-of-requires : tie.Need-records-of-requires
 records-of-requires c κs = search needs
 
 parameters-in-requires : tie.Need-parameters-in-requires
-parameters-in-requires c κs = omega (arith, records-few _ _ (c .records-of .ensures) (c .before .before .pre))
+parameters-in-requires c κs = search needs
 
 returns : tie.Need-returns
-returns c = parameters-all _ _ _ (c .before .records-of .ensures) (c .parameters-in .ensures)
+returns c =
+    let p = c .before in
+    let few = records-few _ _ (p .records-of .ensures) (p .before .before .pre) in
+    parameters-all _ _ _ (p .records-of .ensures) (counts-all _ _ _ (omega arith) (c .parameters-in .ensures))
 
 pub many-parameters-spec : {M : Type 1} → statement M
 many-parameters-spec = tie.close (tie.spec records-of-requires parameters-in-requires returns)

@@ -1,7 +1,6 @@
 -- `shape::broken_state` makes the tests in the definition's order.
 -- Assumes nothing.
 use mathlib.Core.Path.{sym, _∙_}
-use native.Mathlib.Omega.{arith}
 use borrow.Author.Needs.{needs}
 use Rattle.watcher.proofs.HeldLaws.{held-most, held-listed}
 use Rattle.watcher.proofs.Breaking.{own-parameters, broken-lists, broken-behind, broken-signals}
@@ -41,9 +40,7 @@ slice-aggregate-parameters-in : tie.Need-slice-aggregate-parameters-in
 slice-aggregate-parameters-in c = search needs
 
 parameters-in-requires : tie.Need-parameters-in-requires
-parameters-in-requires c κs =
-    let a = c .before .before .before .before .before .before in
-    omega (arith, held-most _ (sym (a .before .start-refuses .ensures) ∙ a .if1 .left))
+parameters-in-requires c κs = search needs
 
 bits-above-requires : tie.Need-bits-above-requires
 bits-above-requires c κs = search needs
@@ -57,7 +54,7 @@ returns-4 c =
     broken-bits _ _ (sym (a .before .start-refuses .ensures) ∙ a .if1 .left)
     (sym (b .before .not-zeros-behind .ensures) ∙ b .if2 .left)
     (sym (s .before .signals-above .ensures) ∙ s .if3 .left) _
-    (own-parameters _ _ (m .parameters-in .ensures))
+    (own-parameters _ _ (sym (a .before .start-refuses .ensures) ∙ a .if1 .left) (m .parameters-in .ensures))
     (sym (c .before .bits-above .ensures) ∙ c .if4 .taken)
 
 not-zero-from-requires : tie.Need-not-zero-from-requires
@@ -73,7 +70,7 @@ returns-5 c =
     broken-unused _ _ (sym (a .before .start-refuses .ensures) ∙ a .if1 .left)
     (sym (b .before .not-zeros-behind .ensures) ∙ b .if2 .left)
     (sym (s .before .signals-above .ensures) ∙ s .if3 .left) _
-    (own-parameters _ _ (m .parameters-in .ensures)) (sym (d .before .bits-above .ensures) ∙ d .if4 .left)
+    (own-parameters _ _ (sym (a .before .start-refuses .ensures) ∙ a .if1 .left) (m .parameters-in .ensures)) (sym (d .before .bits-above .ensures) ∙ d .if4 .left)
     (sym (c .before .not-zero-from .ensures) ∙ c .if5 .taken)
 
 wrong-in-phase-requires : tie.Need-wrong-in-phase-requires
@@ -82,7 +79,7 @@ wrong-in-phase-requires c κs =
     let m = d .before .before in
     let a = m .before .before .before .before .before .before .before in (
       sym (a .before .start-refuses .ensures) ∙ a .if1 .left,
-      own-parameters _ _ (m .parameters-in .ensures),
+      own-parameters _ _ (sym (a .before .start-refuses .ensures) ∙ a .if1 .left) (m .parameters-in .ensures),
       sym (d .before .bits-above .ensures) ∙ d .if4 .left,
     )
 
@@ -97,7 +94,7 @@ returns-6 c =
     broken-phase _ _ (sym (a .before .start-refuses .ensures) ∙ a .if1 .left)
     (sym (b .before .not-zeros-behind .ensures) ∙ b .if2 .left)
     (sym (s .before .signals-above .ensures) ∙ s .if3 .left) _
-    (own-parameters _ _ (m .parameters-in .ensures)) (sym (d .before .bits-above .ensures) ∙ d .if4 .left) _
+    (own-parameters _ _ (sym (a .before .start-refuses .ensures) ∙ a .if1 .left) (m .parameters-in .ensures)) (sym (d .before .bits-above .ensures) ∙ d .if4 .left) _
     (sym (e .before .not-zero-from .ensures) ∙ e .if5 .left) (c .wrong-in-phase .ensures)
 
 pub broken-state-spec : {M : Type 1} → statement M

@@ -8,7 +8,7 @@ use borrow.Author.Count.{below-none, below-more}
 use borrow.Author.Needs.{needs}
 use Rattle.rewriting.specs.Known.{pastIn}
 use Rattle.rewriting.specs.Plans.{ruleFor, entryFor}
-use Rattle.watcher.specs.Shapes.{Before, wrongRecord}
+use Rattle.watcher.specs.inside.Shapes.{Before, wrongRecord}
 use Rattle.watcher.proofs.RecordRows.{before-none, before-next, rows-found, rows-none}
 use Rattle.watcher.proofs.shape.wrong_rows.Statement.{statement}
 use Rattle.watcher.proofs.shape.wrong_rows.Tie as tie

@@ -7,11 +7,11 @@ use Rattle.forms.specs.Form.{Form, or}
 use Rattle.forms.specs.Words.{pack}
 use Rattle.forms.specs.Area.{formIn, Holds}
 use Rattle.meaning.specs.Interval as interval
-use Rattle.meaning.specs.Rule.{Node, Entry}
+use Rattle.meaning.specs.Rule.{Entry}
 use Rattle.meaning.specs.Rewriting.{put, onlyIf, formOf, rowTo, nextRow, untilLater, derivedRow}
 use Rattle.meaning.specs.Rewriting.{previousRow, sinceEarlier, pastRow}
 use Rattle.meaning.specs.Rewriting as rewriting
-use Rattle.rewriting.specs.Decode.{byteOf, intervalOf, nodeOf}
+use Rattle.rewriting.specs.Decode.{intervalOf, nodeFor}
 use Rattle.rewriting.specs.declared.step.Record.{Record}
 use Rattle.rewriting.specs.declared.step.Step.{Step}
 use Rattle.rewriting.specs.declared.step.Neighbour.{Neighbour}
@@ -49,27 +49,13 @@ OnlyWithRows test row ws base count r =
     (m : ℕ) (f : Form m) (rows : List (Form m)) → m ≤ 12 → row ≡ pack m f → Holds m ws base count rows
     → r ≡ pack m (onlyIf m test (put m f rows))
 
--- the neighbour, the interval, the record of the rule and that of the log that a step has
+-- the neighbour, the interval and the record of the log that a step has
 unfoldable pub neighbourOf : Neighbour → rewriting.Neighbour
 neighbourOf None = rewriting.none
 neighbourOf (At time) = rewriting.at time
 
 unfoldable pub intervalIn : Step → interval.Interval
 intervalIn step = intervalOf (step .record .low) (step .record .high)
-
-unfoldable pub nodeFor : Record → Node
-nodeFor d = nodeOf (d .kind) (d .left) (d .right) (d .low) (d .high)
-
--- record k of a list
-unfoldable pub recordIn : List ℕ → ℕ → Record
-recordIn list k =
-    record {
-      kind = byteOf list k 0;
-      left = byteOf list k 1;
-      right = byteOf list k 2;
-      low = byteOf list k 4;
-      high = byteOf list k 5;
-    }
 
 unfoldable pub entryIn : Step → Entry
 entryIn step = record { time = step .here; signals = step .signals }

@@ -13,7 +13,7 @@ use Rattle.meaning.specs.Rule.{Node, nodeAt, count, firstOf, Entry}
 use Rattle.rewriting.specs.declared.step.Moment.{Moment}
 use Rattle.rewriting.specs.Known.{pastIn}
 use Rattle.rewriting.specs.Plans.{entryFor}
-use Rattle.rewriting.specs.Steps.{nodeFor}
+use Rattle.rewriting.specs.Decode.{nodeFor}
 use Rattle.watcher.specs.declared.shape.Here.{Here}
 use Rattle.watcher.specs.Limits.{mostParameters}
 use Rattle.watcher.specs.State.{looksForward, forward, wrongRow}

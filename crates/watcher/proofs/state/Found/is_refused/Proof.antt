@@ -1,9 +1,9 @@
--- `held::is_refused` goes by what was found.
+-- `Found::is_refused` goes by what was found.
 -- Assumes nothing.
 use borrow.Author.Needs.{needs}
 use Rattle.watcher.specs.State.{isRefused}
-use Rattle.watcher.proofs.held.is_refused.Statement.{statement}
-use Rattle.watcher.proofs.held.is_refused.Tie as tie
+use Rattle.watcher.proofs.state.Found.is_refused.Statement.{statement}
+use Rattle.watcher.proofs.state.Found.is_refused.Tie as tie
 
 enum-told : tie.Need-enum-told
 enum-told c = search needs

@@ -4,7 +4,7 @@ use mathlib.Core.Bool.{false}
 use mathlib.Core.List.{List, []}
 use Prim.Native.Nat.{ℕ, _^_, _<_}
 use lib.ListN.{length, getD}
-use Rattle.meaning.specs.Rule.{Node, Entry, parameters}
+use Rattle.meaning.specs.Rule.{Node, parameters}
 use Rattle.meaning.specs.Words.{Known}
 use Rattle.meaning.specs.Words as words
 use Rattle.rewriting.specs.declared.step.Plan.{Plan}
@@ -17,7 +17,7 @@ use Rattle.watcher.specs.declared.state.Phase.the-variants as phase
 use Rattle.watcher.specs.declared.state.Watcher.{Watcher}
 use Rattle.watcher.specs.Limits.{mostParameters, areaWords}
 use Rattle.watcher.specs.Rules.{recordsOf}
-use Rattle.watcher.specs.Numbers.{Stage, fresh, running, closed, stageOf}
+use Rattle.watcher.specs.Numbers.{stageOf}
 use Rattle.watcher.specs.State.{ruleOf, parametersOf, brokenState}
 use Rattle.watcher.specs.Calls.{knownNext}
 
@@ -43,12 +43,6 @@ rewrittenOf w new ws =
     let m : ℕ = parametersOf w in
     let s : Known m = knownNext m (ruleOf w) ws (entryFor new) (stageOf (w .phase)) in
     areaOf mostParameters m (s .past) (s .remainder)
-
--- the last record of a state that has one
-unfoldable pub lastIn : Stage → Entry
-lastIn fresh = record { time = 0; signals = 0 }
-lastIn (running e) = e
-lastIn (closed b) = record { time = 0; signals = 0 }
 
 -- the state closed with a verdict
 unfoldable pub endedState : Watcher → Verdict → Watcher

@@ -5,8 +5,7 @@ use Prim.Native.Nat.{ℕ, _+_, _*_, _≤_}
 use lib.ListN.{getD}
 use Rattle.meaning.specs.Horizon.{Horizon, within, never, larger, later, horizonOf}
 use Rattle.rewriting.specs.declared.step.Record.{Record}
-use Rattle.rewriting.specs.Decode.{intervalOf}
-use Rattle.rewriting.specs.Steps.{nodeFor}
+use Rattle.rewriting.specs.Decode.{intervalOf, nodeFor}
 use Rattle.watcher.specs.declared.horizon.Sides.{Sides}
 
 -- a horizon as a number: 0 is none, and one more than its minutes otherwise

@@ -4,25 +4,17 @@ use mathlib.Core.List.{List}
 use Prim.Native.Nat.{ℕ, _+_}
 use Rattle.forms.specs.Form.{Form}
 use Rattle.forms.specs.Words.{pack}
-use Rattle.forms.specs.Area.{formIn, putRows, Holds}
-use Rattle.meaning.specs.Rewriting.{formsOf, derivedRow, derivedRows, pastRow, pastRows}
-use Rattle.rewriting.specs.Decode.{byteOf, nodeIn, ruleIn}
+use Rattle.forms.specs.Area.{putRows, Holds}
+use Rattle.meaning.specs.Rewriting.{derivedRow, derivedRows, pastRow, pastRows}
+use Rattle.rewriting.specs.Decode.{byteOf, nodeFor, nodeIn}
 use Rattle.rewriting.specs.Known.{pastIn}
-use Rattle.rewriting.specs.Plans.{ruleFor, entryFor}
-use Rattle.rewriting.specs.Steps.{neighbourOf, nodeFor, entryIn, Kept}
+use Rattle.rewriting.specs.Plans.{formRow, ruleFor, entryFor}
+use Rattle.rewriting.specs.inside.Steps.{neighbourOf, entryIn, Kept}
 use Rattle.rewriting.specs.declared.step.Record.{Record}
 use Rattle.rewriting.specs.declared.step.Step.{Step}
 use Rattle.rewriting.specs.declared.step.Neighbour.{Neighbour}
 use Rattle.rewriting.specs.declared.step.Plan.{Plan}
 use Rattle.rewriting.specs.declared.step.Moment.{Moment}
-
--- the row of form j of a list
-unfoldable pub formRow : (m : ℕ) → List (Form m) → ℕ → List ℕ
-formRow m rows j = pack m (formIn m rows j)
-
--- a table with the forms of the rule's first records
-abbrev pub tableWith : List ℕ → ℕ → ℕ → List ℕ → List ℕ
-tableWith list records m ws = putRows ws 0 records (formRow m (formsOf m (ruleIn list records) records))
 
 -- a record of the rule whose parameters begin at first, at a record of the log, with shift 0
 abbrev pub stepOf : Record → ℕ → ℕ → Moment → Neighbour → Step

@@ -12,9 +12,10 @@ use Rattle.meaning.specs.Rewriting.{none, derivedRow, derivedRows}
 use Rattle.rewriting.specs.declared.step.Step.{Step}
 use Rattle.rewriting.specs.declared.step.Plan.{Plan}
 use Rattle.rewriting.specs.declared.step.Moment.{Moment}
+use Rattle.rewriting.specs.Decode.{nodeFor}
 use Rattle.rewriting.specs.Known.{pastIn}
 use Rattle.rewriting.specs.Plans.{ruleFor, entryFor}
-use Rattle.rewriting.specs.Steps.{nodeFor, entryIn}
+use Rattle.rewriting.specs.inside.Steps.{entryIn}
 
 -- the rows are constants, and bit j of the setting is the one that row j is
 abbrev pub Settled : (m : ℕ) → List (Form m) → ℕ → Type 0

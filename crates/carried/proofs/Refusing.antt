@@ -1,0 +1,75 @@
+-- What the exports refuse, whatever bytes are lent.
+-- Assumes nothing.
+use mathlib.Core.Path.{_≡_, sym, ap, _∙_}
+use mathlib.Core.List.{List}
+use Prim.Native.Nat.{ℕ}
+use Rattle.watcher.specs.declared.state.Watcher.{Watcher}
+use Rattle.watcher.specs.declared.state.Found.{Found}
+use Rattle.watcher.specs.declared.state.Found.the-variants.{Fine, Refused}
+use Rattle.watcher.specs.Calls.{feedRefusal, feedWith, feedOf, closeRefusal, closeWith, closeOf}
+use Rattle.demands.specs.Watching.{defined}
+use Rattle.demands.specs.Tables.{foundIn, foundAt}
+use Rattle.demands.specs.Tables as tables
+use Rattle.demands.specs.Demands.{Demands}
+use Rattle.demands.proofs.Following.{defined-meets}
+use Rattle.demands.proofs.Demanded.{demanded}
+use Rattle.port.specs.Layout.{written, stateIn}
+use Rattle.port.specs.Codes.{foundCode, answerCode, asAnswer}
+use Rattle.port.specs.Exports.{startedBytes, startBytes, keptUnless, answeredBytes, fedBytes, feedBytes, endedBytes}
+use Rattle.port.specs.Exports.{closeBytes}
+use Rattle.port.proofs.Exported.{right-one, start-wrong, feed-wrong, close-wrong}
+use Rattle.port.proofs.Machines.{machine-in}
+use Rattle.carried.specs.Exporting.{Exports, MeetsExports}
+use Rattle.carried.specs.Calls.{ExportsRefuse}
+
+demands : Demands defined
+demands = demanded defined defined-meets
+
+-- a refusal's code is its number, and the bytes stay
+found-number : (f : Found) (n : ℕ) → tables.Carries f n → foundCode f ≡ n
+unfolding foundCode tables.Carries
+found-number Fine n c = absurd c
+found-number (Refused r) n c = c
+
+fed-refused : (f : Found) (w : Watcher) (bytes piece ws : List ℕ) (n : ℕ)
+    → tables.Carries (foundIn (feedWith f w piece ws .0 .answer)) n
+    → fedBytes (feedWith f w piece ws) bytes ≡ (n, bytes, ws)
+unfolding feedWith fedBytes answeredBytes keptUnless answerCode foundIn tables.Carries
+fed-refused Fine w bytes piece ws n c = absurd c
+fed-refused (Refused r) w bytes piece ws n c = ap (λ x. (x, bytes, ws)) c
+
+closed-refused : (f : Found) (w : Watcher) (bytes ws : List ℕ) (n : ℕ)
+    → tables.Carries (foundAt (closeWith f w ws .0 .answer)) n
+    → endedBytes (closeWith f w ws) bytes ≡ (n, bytes, ws)
+unfolding closeWith endedBytes asAnswer answeredBytes keptUnless answerCode foundAt tables.Carries
+closed-refused Fine w bytes ws n c = absurd c
+closed-refused (Refused r) w bytes ws n c = ap (λ x. (x, bytes, ws)) c
+
+module _ (f : Exports) (right : MeetsExports f) where
+  pub exports-refuse : ExportsRefuse f
+  unfolding startBytes startedBytes feedBytes feedOf closeBytes closeOf defined
+  exports-refuse =
+      record {
+        start-91 =
+            λ rule signals bytes ws r s b w h.
+            right .starts rule signals bytes ws r s b w ∙ sym (start-wrong rule signals bytes ws h);
+        feed-91 =
+            λ bytes piece ws b p w h. right .feeds bytes piece ws b p w ∙ sym (feed-wrong bytes piece ws h);
+        close-91 = λ bytes ws b w h. right .closes bytes ws b w ∙ sym (close-wrong bytes ws h);
+        start =
+            λ rule signals bytes ws r s b w long n g.
+            let c = demands .first .start rule signals ws r s w .refused n .1 g in
+            let z = demands .first .start-zeros rule signals ws r s w n c in
+            right .starts rule signals bytes ws r s b w ∙ sym (right-one bytes _ _ long)
+            ∙ (λ i. (found-number _ n c i, written (z .0 i), z .1 i));
+        feed =
+            λ bytes piece ws b p w long n g.
+            let c = demands .first .feed (stateIn bytes) piece ws (machine-in bytes b) p w .refused n .1 g in
+            right .feeds bytes piece ws b p w ∙ sym (right-one bytes _ _ long)
+            ∙ fed-refused (feedRefusal (stateIn bytes) piece ws) (stateIn bytes) bytes piece ws n c;
+        close =
+            λ bytes ws b w long n g.
+            let c = demands .first .close (stateIn bytes) ws (machine-in bytes b) w .refused n .1 g in
+            right .closes bytes ws b w ∙ sym (right-one bytes _ _ long)
+            ∙ closed-refused (closeRefusal (stateIn bytes) ws) (stateIn bytes) bytes ws n c;
+      }

@@ -1,0 +1,4 @@
+-- What the functions inside the crate say. Nobody outside has to believe it.
+pub mod Shapes
+pub mod Turns
+pub mod Horizons
