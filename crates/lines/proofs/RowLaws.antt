@@ -13,7 +13,7 @@ use Rattle.watcher.specs.declared.state.Watcher.{Watcher}
 use Rattle.watcher.specs.Limits.{mostRecords}
 use Rattle.watcher.specs.State.{parametersOf}
 use Rattle.lines.specs.Text.{decimal}
-use Rattle.lines.specs.Lines.{putText}
+use Rattle.lines.specs.inside.Puts.{putText}
 use Rattle.lines.specs.Rows.{termText, termsText, noneText, pastLine, remainderLine, rowsOf, rowOf, rowLine}
 use Rattle.lines.proofs.Texts.{text-then, text-placed}
 

@@ -10,7 +10,8 @@ use lib.ListN.{length, getD, take, drop, set, length-append, drop-of-length-le}
 use lib.Seq.{take-nil, drop-nil, drop-cons, append-snoc, set-append-seam}
 use borrow.Author.Tests.{lt-ltb, le-ltb}
 use Rattle.lines.specs.Text.{digits}
-use Rattle.lines.specs.Lines.{placed, putByte, putText}
+use Rattle.lines.specs.Lines.{placed}
+use Rattle.lines.specs.inside.Puts.{putByte, putText}
 
 -- a byte that fits, and one that does not
 pub byte-fits : (at : ℕ) (out : List ℕ) (b : ℕ) → at < length out → (at + 1, set out at b) ≡ putByte (at, out) b

@@ -12,7 +12,8 @@ use Rattle.watcher.specs.Records.{timeOf}
 use Rattle.watcher.specs.State.{isRefused}
 use Rattle.watcher.specs.Calls.{startOf, feedOf, closeOf}
 use Rattle.lines.specs.Text.{foundLine, answerLine, endLine}
-use Rattle.lines.specs.Lines.{putText, turned, startedLine, startLine, fedLine, feedLine, endedLine, closeLine}
+use Rattle.lines.specs.Lines.{turned, startedLine, startLine, fedLine, feedLine, endedLine, closeLine}
+use Rattle.lines.specs.inside.Puts.{putText}
 use Rattle.lines.proofs.Texts.{text-placed}
 
 pub start-turned : (rule signals ws out : List ℕ) (s : Started) (ws′ : List ℕ) (ready : Bool) (n : ℕ) (out′ : List ℕ)

@@ -3,3 +3,4 @@ pub mod Lines
 pub mod Rows
 pub mod Listing
 pub mod Clauses
+pub mod inside

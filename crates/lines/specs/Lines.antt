@@ -1,9 +1,8 @@
 -- What each function answers: the text of a line in a lent buffer, and how many bytes it has there.
-use mathlib.Core.Bool.{not, cond}
-use mathlib.Core.List.{List, [], _∷_, _++_}
-use Prim.Native.Nat.{ℕ, _+_, min}
-use lib.Dec.{ltb}
-use lib.ListN.{length, take, drop, set}
+use mathlib.Core.Bool.{not}
+use mathlib.Core.List.{List, _++_}
+use Prim.Native.Nat.{ℕ, min}
+use lib.ListN.{length, take, drop}
 use Rattle.watcher.specs.declared.state.Watcher.{Watcher}
 use Rattle.watcher.specs.declared.state.Started.{Started}
 use Rattle.watcher.specs.declared.state.Fed.{Fed}
@@ -48,11 +47,3 @@ endedLine out e = turned (e .0 .next) (e .1) (placed out (endLine (e .0 .answer)
 
 unfoldable pub closeLine : Watcher → (ws out : List ℕ) → Turn × List ℕ × List ℕ
 closeLine w ws out = endedLine out (closeOf w ws)
-
--- inside: a byte, and then a text, put at a place; nothing is put past the end
-unfoldable pub putByte : ℕ × List ℕ → ℕ → ℕ × List ℕ
-putByte o b = cond (ltb (o .0) (length (o .1))) (o .0 + 1, set (o .1) (o .0) b) o
-
-unfoldable pub putText : ℕ × List ℕ → List ℕ → ℕ × List ℕ
-putText o [] = o
-putText o (b ∷ text) = putText (putByte o b) text

@@ -7,7 +7,7 @@ use watcher::state::Watcher;
 ghost use mathlib.Core.Path.{_≡_};
 ghost use Prim.Native.Nat.{_<_};
 ghost use Rattle.ground.specs.Bits.{bitAt};
-ghost use Rattle.lines.specs.Lines.{putText};
+ghost use Rattle.lines.specs.inside.Puts.{putText};
 ghost use Rattle.lines.specs.Rows.{termText, noneText, rowBits, rowText, restOfLine, pastLine, remainderLine};
 ghost use Rattle.lines.specs.Rows.{rowsOf, rowOf};
 ghost use Rattle.lines.specs.Clauses.{RowLineClause};

@@ -6,7 +6,7 @@ use watcher::state::Refusal;
 use watcher::state::Word;
 ghost use mathlib.Core.Path.{_≡_};
 ghost use Prim.Native.Nat.{ℕ, _<_};
-ghost use Rattle.lines.specs.Lines.{putByte, putText};
+ghost use Rattle.lines.specs.inside.Puts.{putByte, putText};
 ghost use Rattle.lines.specs.Text.{digits, decimal, wordText, wordLine, refusedLine};
 ghost use Rattle.lines.specs.Text.{foundLine, toldLine, answerLine, endText, endLine};
 

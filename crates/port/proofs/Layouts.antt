@@ -24,7 +24,7 @@ use Rattle.watcher.specs.Calls.{zeroState}
 use Rattle.port.specs.Layout.{stateBytes, rulePlace, listPlace, recordsPlace, signalsPlace, timePlace, wordPlace}
 use Rattle.port.specs.Layout.{phasePlace, zeroPlace, digit, phaseNumber, numberByte, byteAt}
 use Rattle.port.specs.Layout.{phaseWith, listAt, stateIn}
-use Rattle.port.specs.Steps.{listPut}
+use Rattle.port.specs.inside.Steps.{listPut}
 
 module _ (records signals : ℕ) (last : Entry) (phase i : ℕ) where
   pub number-records : i < signalsPlace

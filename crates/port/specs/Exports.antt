@@ -32,15 +32,16 @@ unfoldable pub refusalBytes : (bytes piece ws : List ℕ) → ℕ
 refusalBytes bytes piece ws =
     cond (wrongState bytes) stateLength (foundCode (feedRefusal (stateIn bytes) piece ws))
 
--- an answer: its code, and the bytes hold the next state; if it is a refusal, they stay
+-- the bytes after an answer: the next state, or as they were where it is a refusal
 unfoldable pub keptUnless : Answer → (next bytes : List ℕ) → List ℕ
 keptUnless (Accepted report) next bytes = next
 keptUnless (Refused r) next bytes = bytes
 
+-- an answer's code, with the bytes and the work area after it
 unfoldable pub answeredBytes : Answer → Watcher → (ws bytes : List ℕ) → ℕ × List ℕ × List ℕ
 answeredBytes a next ws bytes = (answerCode a, keptUnless a (written next) bytes, ws)
 
--- feed: the answer to the record
+-- feed
 unfoldable pub fedBytes : Fed × List ℕ → List ℕ → ℕ × List ℕ × List ℕ
 fedBytes s bytes = answeredBytes (s .0 .answer) (s .0 .next) (s .1) bytes
 
@@ -48,7 +49,7 @@ unfoldable pub feedBytes : (bytes piece ws : List ℕ) → ℕ × List ℕ × Li
 feedBytes bytes piece ws =
     cond (wrongState bytes) (stateLength, bytes, ws) (fedBytes (feedOf (stateIn bytes) piece ws) bytes)
 
--- close: its answer, as one to a record
+-- close: its answer counts as one to a record
 unfoldable pub endedBytes : Ended × List ℕ → List ℕ → ℕ × List ℕ × List ℕ
 endedBytes s bytes = answeredBytes (asAnswer (s .0 .answer)) (s .0 .next) (s .1) bytes
 

@@ -14,7 +14,7 @@ ghost use Rattle.rewriting.specs.Plans.{entryFor};
 ghost use Rattle.watcher.specs.Limits.{listBytes};
 ghost use Rattle.port.specs.Layout.{stateBytes, recordsPlace, digit, phaseNumber};
 ghost use Rattle.port.specs.Layout.{numberByte, written, phaseWith, listAt, stateIn};
-ghost use Rattle.port.specs.Steps.{listPut};
+ghost use Rattle.port.specs.inside.Steps.{listPut};
 
 // The places of the lists, of their numbers of records, of the last record's time and signals, and of the phase.
 const RULE: usize = 0;

@@ -3,7 +3,7 @@
 use borrow.Author.Needs.{needs}
 use mathlib.Core.Path.{refl}
 use mathlib.Core.Bool.{true, false}
-use Rattle.lines.specs.Lines.{putText}
+use Rattle.lines.specs.inside.Puts.{putText}
 use Rattle.lines.specs.Rows.{noneText}
 use Rattle.lines.proofs.Texts.{same-text}
 use Rattle.lines.proofs.rows.put_none.Statement.{statement}

@@ -7,7 +7,7 @@ use Prim.Native.Nat.{_-_, _≤_}
 use lib.ListN.{length}
 use Rattle.ground.specs.Fold.{fold, some}
 use Rattle.ground.specs.Bits.{bitAt}
-use Rattle.lines.specs.Lines.{putText}
+use Rattle.lines.specs.inside.Puts.{putText}
 use Rattle.lines.specs.Rows.{rowBits, termsText, rowText}
 use Rattle.lines.proofs.RowLaws.{any-more, terms-more, terms-done}
 use Rattle.lines.proofs.rows.put_row.Statement.{statement}

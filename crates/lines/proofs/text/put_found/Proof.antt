@@ -3,7 +3,7 @@
 use borrow.Author.Needs.{needs}
 use mathlib.Core.Path.{refl}
 use Rattle.watcher.specs.declared.state.Found.the-variants.{Fine, Refused}
-use Rattle.lines.specs.Lines.{putText}
+use Rattle.lines.specs.inside.Puts.{putText}
 use Rattle.lines.specs.Text.{foundLine}
 use Rattle.lines.proofs.Texts.{same-text}
 use Rattle.lines.proofs.text.put_found.Statement.{statement}

@@ -7,7 +7,7 @@ use lib.ListN.{length, getD}
 use borrow.Author.Needs.{needs}
 use Rattle.ground.proofs.Tabs.{tab-is}
 use Rattle.watcher.specs.Limits.{listBytes}
-use Rattle.port.specs.Steps.{listPut}
+use Rattle.port.specs.inside.Steps.{listPut}
 use Rattle.port.proofs.Layouts.{putAt, put-none, put-more}
 use Rattle.port.proofs.layout.put_list.Statement.{statement}
 use Rattle.port.proofs.layout.put_list.Tie as tie

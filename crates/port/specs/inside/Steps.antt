@@ -1,4 +1,4 @@
--- What a step of writing a state makes of the bytes.
+-- What a step of writing a state makes of the bytes. Nobody outside has to believe it.
 use mathlib.Core.Bool.{_&&_, cond}
 use mathlib.Core.List.{List}
 use Prim.Native.Nat.{ℕ, _+_, _-_}

@@ -1,0 +1,2 @@
+-- What the functions inside the crate say. Nobody outside has to believe it.
+pub mod Steps
