@@ -1,7 +1,7 @@
 -- A row of the table that passes by the definitions is what start, feed and close answer over bytes.
 -- Assumes nothing.
 use mathlib.Core.Path.{_≡_, refl, sym, ap, ap₂, _∙_, subst}
-use mathlib.Core.Bool.{Bool, true, false, _&&_, cond, and-eq-true-iff, false≢true}
+use mathlib.Core.Bool.{Bool, true, false, not, _&&_, cond, and-eq-true-iff, false≢true}
 use mathlib.Core.List.{List, [], _∷_, _++_, map, append-assoc, append-nil}
 use Prim.Native.Nat.{ℕ, _+_, _<_}
 use native.Mathlib.Omega.{arith}
@@ -11,7 +11,7 @@ use borrow.Author.Tests.{eqb-true}
 use Rattle.meaning.specs.Rule.{Entry}
 use Rattle.meaning.specs.Meaning.{valueOf}
 use Rattle.meaning.specs.Horizon.{Horizon, within, never}
-use Rattle.meaning.specs.Words.{first, fed, after, Word, kept, broken, pending, word}
+use Rattle.meaning.specs.Words.{first, fed, after, Word, kept, broken, pending, word, wordOf}
 use Rattle.watcher.specs.declared.state.Found.{Found}
 use Rattle.watcher.specs.declared.state.Found.the-variants.{Fine, Refused}
 use Rattle.watcher.specs.declared.state.Refusal.{Refusal}
@@ -20,14 +20,15 @@ use Rattle.watcher.specs.Numbers.{refusalNumber, verdictValue, verdictFor}
 use Rattle.watcher.specs.Rules.{recordsOf}
 use Rattle.watcher.specs.Records.{entryOf}
 use Rattle.watcher.specs.Lists.{listsRefusal}
+use Rattle.watcher.specs.State.{isRefused}
 use Rattle.watcher.specs.Calls.{startRefusal, startOf, startWith, waitOf}
 use Rattle.watcher.proofs.Decoded.{Accepted}
 use Rattle.demands.specs.Watching.{defined, feeding, told, ending}
 use Rattle.demands.specs.Logs.{accepts, logWith, going, further, furtherBy, courseOf, logIn}
 use Rattle.demands.specs.Rewritten.{readRule, parametersIn, heldAfter, heldIn, wordAfter}
 use Rattle.demands.specs.Tables.{Carries}
-use Rattle.demands.specs.Examples.{Row, says, winds, accepted, refused, reads, waits, table, isFine, refusedWith, allIn}
-use Rattle.demands.specs.Examples.{valueWord, wordNumber, sameWords, horizonNumber, wordsFrom, wordsOf, seen}
+use Rattle.demands.specs.Examples.{Row, says, winds, accepted, refused, reads, waits, table, refusedWith, allIn}
+use Rattle.demands.specs.Examples.{wordNumber, sameWords, horizonNumber, wordsFrom, wordsOf, seen}
 use Rattle.demands.specs.Examples.{allTaken, right, windRight, passes, GetWords, EndsWith, Run, WindRun, AllOf}
 use Rattle.demands.specs.Examples.{Answers, ruleSignal, signalRecord, windRecord, vents}
 use Rattle.demands.proofs.OwnStates.{start-accepts, start-accepted, start-refuses}
@@ -84,7 +85,8 @@ behind-one (x ∷ vs) [] v w e =
 behind-one (x ∷ vs) (y ∷ ws) v w e = ap₂ _∷_ (cc) (behind-one vs ws v w (cc))
 
 -- lists that pass
-fine-one : (f : Found) → isFine f ≡ true → f ≡ Fine
+fine-one : (f : Found) → not (isRefused f) ≡ true → f ≡ Fine
+unfolding isRefused
 fine-one Fine e = refl
 fine-one (Refused r) e = absurd (false≢true e)
 
@@ -92,7 +94,7 @@ refused-one : (n : ℕ) (f : Found) → refusedWith n f ≡ true → (r : Refusa
 refused-one n Fine e = absurd (false≢true e)
 refused-one n (Refused r) e = (r, refl, eqb-true (refusalNumber r) n e)
 
-starts-fine : (rule signals ws : List ℕ) → isFine (listsRefusal rule signals) ≡ true → length ws ≡ areaWords
+starts-fine : (rule signals ws : List ℕ) → not (isRefused (listsRefusal rule signals)) ≡ true → length ws ≡ areaWords
     → startRefusal rule signals ws ≡ Fine
 starts-fine rule signals ws e l = start-accepts rule signals ws (fine-one (listsRefusal rule signals) e) l
 
@@ -161,14 +163,14 @@ module _ (rule signals : List ℕ) where
         )
 
     ends-with : (log : List Entry) → Right signals log → (closing : Word)
-        → eqb (wordNumber (valueWord (valueOf log (readRule rule)))) (wordNumber closing) ≡ true → 0 < length log
+        → eqb (wordNumber (wordOf (valueOf log (readRule rule)))) (wordNumber closing) ≡ true → 0 < length log
         → EndsWith (ending defined (heldAfter rule signals log)) closing
     unfolding EndsWith
     ends-with [] r closing v h = let z : ⊥ = omega arith in absurd z
     ends-with (e ∷ es) r closing v h =
         subst (λ x. EndsWith x closing) (sym (close-some rule signals fine e es r .0))
-        (ap valueWord (valued (valueOf (e ∷ es) (readRule rule)))
-        ∙ word-one (valueWord (valueOf (e ∷ es) (readRule rule))) closing v)
+        (ap wordOf (valued (valueOf (e ∷ es) (readRule rule)))
+        ∙ word-one (wordOf (valueOf (e ∷ es) (readRule rule))) closing v)
 
   -- what passes runs so
   run-right : (log : List (List ℕ)) (words : List Word) (closing : Word) → right rule signals log words closing ≡ true
@@ -187,10 +189,10 @@ module _ (rule signals : List ℕ) where
             (ends-with fine (seen signals log) logged closing (parts .3) (some log (parts .2)));
       }
     where
-      parts : (isFine (listsRefusal rule signals) ≡ true) × (allTaken signals [] log ≡ true)
+      parts : (not (isRefused (listsRefusal rule signals)) ≡ true) × (allTaken signals [] log ≡ true)
           × (sameWords (wordsOf (parametersIn rule) (readRule rule) (seen signals log)) (words ++ (closing ∷ []))
           ≡ true)
-          × (eqb (wordNumber (valueWord (valueOf (seen signals log) (readRule rule)))) (wordNumber closing) ≡ true)
+          × (eqb (wordNumber (wordOf (valueOf (seen signals log) (readRule rule)))) (wordNumber closing) ≡ true)
       parts = all-four _ _ _ _ e
 
       begun : startRefusal rule signals ws ≡ Fine
@@ -237,7 +239,7 @@ answered (winds limit unit meets fails) e =
           all more (b .1) ws l,
         )
 answered (accepted rule n) e =
-    let b = both (isFine (listsRefusal rule vents)) _ e in (
+    let b = both (not (isRefused (listsRefusal rule vents))) _ e in (
       eqb-true (parametersIn rule) n (b .1),
       λ ws l. start-found rule vents ws ∙ starts-fine rule vents ws (b .0) l,
     )
@@ -249,7 +251,7 @@ answered (refused rule number) e =
 answered (reads signal bytes w) e = run-right ruleSignal signal (bytes ∷ []) (pending ∷ []) w e
 answered (waits rule h) e =
     λ ws l.
-    let b = both (isFine (listsRefusal rule vents)) _ e in
+    let b = both (not (isRefused (listsRefusal rule vents))) _ e in
     let begun = starts-fine rule vents ws (b .0) l in (
       start-found rule vents ws ∙ begun,
       ap waitOf (start-next rule vents ws begun)

@@ -14,7 +14,7 @@ use Rattle.meaning.specs.Meaning.{nextAt, untilAt, sinceAt, meaning, values, va
 use Rattle.meaning.specs.Horizon.{larger, later, horizonOf, horizons, horizon, Bounded, Finite, AllFinite}
 use Rattle.meaning.specs.Rewriting.{put, onlyIf, formOf, formsOf, parameterTo, rowTo, nextRow, untilLater, derivedRow}
 use Rattle.meaning.specs.Rewriting.{derivedRows, sinceEarlier, pastRow, pastRows}
-use Rattle.meaning.specs.Words.{start, first, feed, close, wordFor, word}
+use Rattle.meaning.specs.Words.{start, first, feed, close, wordFor, word, wordOf}
 use Rattle.rewriting.specs.Decode.{byteOf, intervalOf, nodeOf, nodeIn, ruleIn}
 use Rattle.watcher.specs.Numbers.{refusalNumber}
 use Rattle.watcher.specs.Rules.{recordsOf, wrongLength, usedBytes, uses, fairLimits, usedRight}
@@ -23,6 +23,7 @@ use Rattle.watcher.specs.Signals.{signalBreaks, wrongSignals, namesMissing, lim
 use Rattle.watcher.specs.Records.{wrongRecord, timeOf, temperatureOf, windOf, windMeets, meets, signalHolds, signalWord}
 use Rattle.watcher.specs.Records.{entryOf}
 use Rattle.watcher.specs.Lists.{firstRefusal, listTests, listsRefusal}
+use Rattle.watcher.specs.State.{isRefused}
 use Rattle.demands.specs.Logs.{lastTime, accepts, logWith}
 use Rattle.demands.specs.Rewritten.{readRule, parametersIn}
 use Rattle.demands.specs.Examples.{allIn, table, passes, ruleA, ruleB}
@@ -46,6 +47,6 @@ unfolding table passes fold someIn everyIn tab bit ofBits little constant parame
     parameterTo rowTo nextRow untilLater derivedRow derivedRows sinceEarlier pastRow pastRows start first feed close
     wordFor word refusalNumber byteOf recordsOf wrongLength usedBytes uses fairLimits usedRight byteBreaks
     recordBreaks ruleBreaks sameRecord hasTwins intervalOf nodeOf nodeIn ruleIn signalBreaks wrongSignals namesMissing
-    limitOf wrongRecord timeOf temperatureOf windOf windMeets meets signalHolds signalWord entryOf firstRefusal manyParameters
+    limitOf wrongRecord timeOf temperatureOf windOf windMeets meets signalHolds signalWord entryOf firstRefusal isRefused wordOf manyParameters
     listTests listsRefusal lastTime accepts logWith readRule parametersIn
 examples = refl

@@ -14,6 +14,7 @@ pub mod Demanded
 pub mod OwnWork
 pub mod Answered
 pub mod ExampleTwo
+pub mod Handed
 pub mod BadWatchers
 pub mod Scratch
 pub mod Leaving

@@ -1,7 +1,7 @@
 -- Document 01's starred examples, one to twelve, and a few more on channels, senses and horizons, as one table over bytes;
 -- when a row of it passes by the definitions alone, and what start, feed and close then answer.
 use mathlib.Core.Path.{_≡_}
-use mathlib.Core.Bool.{Bool, true, false, _&&_}
+use mathlib.Core.Bool.{Bool, true, false, not, _&&_}
 use mathlib.Core.List.{List, [], _∷_, _++_, map}
 use Prim.Native.Nat.{ℕ, _+_, _-_, _/_, _%_}
 use lib.Dec.{eqb}
@@ -9,7 +9,7 @@ use lib.ListN.{length}
 use Rattle.meaning.specs.Rule.{Node, Entry}
 use Rattle.meaning.specs.Meaning.{valueOf}
 use Rattle.meaning.specs.Horizon.{Horizon, within, never, horizon}
-use Rattle.meaning.specs.Words.{Known, first, feed, close, Word, kept, broken, pending, word}
+use Rattle.meaning.specs.Words.{Known, first, feed, close, Word, kept, broken, pending, word, wordOf}
 use Rattle.watcher.specs.declared.state.Found.{Found}
 use Rattle.watcher.specs.declared.state.Found.the-variants.{Fine, Refused}
 use Rattle.watcher.specs.declared.state.End.{End}
@@ -19,6 +19,7 @@ use Rattle.watcher.specs.Numbers.{refusalNumber, saying, verdictValue}
 use Rattle.watcher.specs.Rules.{recordsOf}
 use Rattle.watcher.specs.Records.{entryOf}
 use Rattle.watcher.specs.Lists.{listsRefusal}
+use Rattle.watcher.specs.State.{isRefused}
 use Rattle.watcher.specs.Calls.{startOf, waitOf}
 use Rattle.watcher.specs.Runs.{Held}
 use Rattle.demands.specs.Watching.{defined, feeding, told, ending, handed, reached}
@@ -143,11 +144,7 @@ table =
     ∷ waits (ruleA 2) (within 2) ∷ waits ruleB never ∷ waits ruleUnreached (within 0) ∷ waits ruleNested (within 5)
     ∷ []
 
--- lists are accepted, or refused with a number
-abbrev pub isFine : Found → Bool
-isFine Fine = true
-isFine (Refused r) = false
-
+-- lists are refused with a number
 abbrev pub refusedWith : ℕ → Found → Bool
 refusedWith n Fine = false
 refusedWith n (Refused r) = eqb (refusalNumber r) n
@@ -157,11 +154,7 @@ abbrev pub allIn : {A : Type 0} → (A → Bool) → List A → Bool
 allIn test [] = true
 allIn test (x ∷ xs) = test x && allIn test xs
 
--- the word of a value; a word as a number; the same words
-abbrev pub valueWord : Bool → Word
-valueWord true = kept
-valueWord false = broken
-
+-- a word as a number; the same words
 abbrev pub wordNumber : Word → ℕ
 wordNumber broken = 0
 wordNumber kept = 1
@@ -199,9 +192,9 @@ allTaken signals log (bytes ∷ more) = accepts log bytes && allTaken signals (l
 -- lists and records are accepted, the words are those given, and the log's value is the closing word's
 abbrev pub right : (rule signals : List ℕ) → List (List ℕ) → List Word → Word → Bool
 right rule signals log words closing =
-    isFine (listsRefusal rule signals) && allTaken signals [] log
+    not (isRefused (listsRefusal rule signals)) && allTaken signals [] log
     && sameWords (wordsOf (parametersIn rule) (readRule rule) (seen signals log)) (words ++ (closing ∷ []))
-    && eqb (wordNumber (valueWord (valueOf (seen signals log) (readRule rule)))) (wordNumber closing)
+    && eqb (wordNumber (wordOf (valueOf (seen signals log) (readRule rule)))) (wordNumber closing)
 
 -- a wind at a limit, as a log of one record for the rule of one signal
 abbrev pub windRight : (limit unit wind : ℕ) → Word → Bool
@@ -213,11 +206,12 @@ unfoldable pub passes : Row → Bool
 passes (says rule log words closing) = right rule vents log words closing
 passes (winds limit unit meets fails) =
     windRight limit unit meets kept && allIn (λ wind. windRight limit unit wind broken) fails
-passes (accepted rule n) = isFine (listsRefusal rule vents) && eqb (parametersIn rule) n
+passes (accepted rule n) = not (isRefused (listsRefusal rule vents)) && eqb (parametersIn rule) n
 passes (refused rule number) = refusedWith number (listsRefusal rule vents)
 passes (reads signal bytes w) = right ruleSignal signal (bytes ∷ []) (pending ∷ []) w
 passes (waits rule h) =
-    isFine (listsRefusal rule vents) && eqb (horizonNumber (horizon (readRule rule))) (horizonNumber h)
+    not (isRefused (listsRefusal rule vents))
+    && eqb (horizonNumber (horizon (readRule rule))) (horizonNumber h)
 
 -- records fed one after another get these words
 abbrev pub GetWords : Held → List (List ℕ) → List Word → Type 0
@@ -229,7 +223,7 @@ GetWords h (bytes ∷ more) (w ∷ words) =
 
 -- closing gets a verdict that says this
 unfoldable pub EndsWith : End → Word → Type 0
-EndsWith (end.Closed v) w = valueWord (verdictValue v) ≡ w
+EndsWith (end.Closed v) w = wordOf (verdictValue v) ≡ w
 EndsWith (end.Refused r) w = ⊥
 
 -- a run with a work area: it is started, its records get these words, and closing says this

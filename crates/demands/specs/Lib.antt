@@ -5,5 +5,6 @@ pub mod Areas
 pub mod Tables
 pub mod Demands
 pub mod OwnWork
+pub mod Handed
 pub mod BadWatchers
 pub mod Examples

@@ -1,4 +1,4 @@
--- Three functions with the types of start, feed and close: what it is to meet the statements, and runs of them.
+-- Three functions with the types of start, feed and close: what it is to meet their clauses, and runs of them.
 use mathlib.Core.Path.{_≡_}
 use mathlib.Core.List.{List, [], _∷_}
 use Prim.Native.Nat.{ℕ}

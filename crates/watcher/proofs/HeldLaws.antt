@@ -11,7 +11,7 @@ use lib.Dec.{ltb}
 use lib.ListN.{length, take, drop, take-append-drop}
 use lib.Seq.{length-take-le}
 use Rattle.ground.specs.Bytes.{zerosFrom}
-use Rattle.meaning.specs.Rule.{parameters}
+use Rattle.meaning.specs.Rule.{Ordered, parameters}
 use Rattle.rewriting.specs.Decode.{recordBytes, byteOf, ruleIn}
 use Rattle.watcher.specs.declared.state.Watcher.{Watcher}
 use Rattle.watcher.specs.declared.state.Found.{Found}
@@ -22,7 +22,7 @@ use Rattle.watcher.specs.Lists.{listsRefusal}
 use Rattle.watcher.specs.State.{ruleOf, parametersOf, ruleBytes, listBytesOf}
 use Rattle.watcher.specs.State.{isRefused, startRefuses, notZerosBehind}
 use Rattle.watcher.proofs.Decoded.{Accepted, fine-tests, neither, length-fine, record-fine, byte-before}
-use Rattle.watcher.proofs.Decoded.{ruleIn-before, accepted-laid, accepted-few}
+use Rattle.watcher.proofs.Decoded.{ruleIn-before, accepted-laid, accepted-ordered, accepted-few}
 
 -- so many records have room in a list
 pub records-room : (n long : ℕ) → listBytes ≡ long → n ≤ mostRecords → recordBytes * n ≤ long
@@ -107,6 +107,9 @@ module _ (w : Watcher) (fine : startRefuses w ≡ false) where
         subst (λ list. 1 ≤ byteOf list k 0) whole
         (subst (λ b. 1 ≤ b) (sym (byte-before (ruleBytes w) _ k 0 l (omega arith)))
         (record-fine (ruleBytes w) k (accepted-laid (ruleBytes w) (listBytesOf w) (lists-held .2) k l) .low))
+
+    pub held-ordered : Ordered (ruleOf w)
+    held-ordered = subst Ordered rule-held (accepted-ordered (ruleBytes w) (listBytesOf w) (lists-held .2))
 
     pub held-few : parametersOf w ≤ mostParameters
     unfolding parametersOf
