@@ -18,7 +18,7 @@ use Rattle.forms.specs.Rows.{OfForm, OfForms, whichConstant}
 use Rattle.forms.specs.Area.{rowAt, Holds}
 use Rattle.forms.specs.Clauses.{ConstantClause, ParameterClause, XorClause, AndClause, OrClause}
 use Rattle.forms.specs.Clauses.{WhichConstantClause, FitsClause, NamesClause, ValueClause}
-use Rattle.forms.specs.Clauses.{LoadClause, StoreClause, ClearClause, PutInClause}
+use Rattle.forms.specs.Clauses.{LoadClause, RowOfClause, StoreClause, ClearClause, PutInClause}
 use Rattle.forms.proofs.Areas.{row-words}
 use Rattle.forms.proofs.Packing.{bit-unpack, pack-is, most-is, most-few, most-wide}
 
@@ -98,24 +98,26 @@ pub only-clear : (ws : List ℕ) (base count : ℕ) (o o′ : List ℕ) → Clea
     → ClearClause ws base count o′ → o ≡ o′
 only-clear ws base count = only-one _
 
--- a row with an area's rows put in
-pub only-put-in : (row ws : List ℕ) (base count : ℕ) (o o′ : List ℕ) → Words 64 row
-    → ((i : ℕ) → getD ws i 0 < 2 ^ 64) → PutInClause row ws base count o → PutInClause row ws base count o′ → o ≡ o′
-only-put-in row ws base count o o′ w small p q =
-    let f : Form most = unpack most row in
-    let e : row ≡ pack most f = whole-most row w in
-    p most f rows most-few e holds ∙ sym (q most f rows most-few e holds)
-  where
-    at : ℕ → Form most
-    at j = unpack most (rowAt ws (base + j))
+-- the rows of an area are forms over 12 parameters
+module _ (ws : List ℕ) (base count : ℕ) (small : (i : ℕ) → getD ws i 0 < 2 ^ 64) where
+  abbrev at : ℕ → Form most
+  at j = unpack most (rowAt ws (base + j))
 
-    rows : List (Form most)
-    rows = tab count at
+  held : Holds most ws base count (tab count at)
+  held = record {
+    long = length-tab count at;
+    row = λ j h.
+        whole-most (rowAt ws (base + j)) (row-words ws (base + j) small)
+        ∙ ap (pack most) (sym (getD-tab count at j (constant most false) h));
+  }
 
-    holds : Holds most ws base count (tab count (λ j. unpack most (rowAt ws (base + j))))
-    holds = record {
-      long = length-tab count at;
-      row = λ j h.
-          whole-most (rowAt ws (base + j)) (row-words ws (base + j) small)
-          ∙ ap (pack most) (sym (getD-tab count at j (constant most false) h));
-    }
+  pub only-row-of : (j : ℕ) (o o′ : List ℕ) → RowOfClause ws base count j o → RowOfClause ws base count j o′ → o ≡ o′
+  only-row-of j o o′ p q = p most (tab count at) held ∙ sym (q most (tab count at) held)
+
+  -- a row with them put in
+  pub only-put-in : (row o o′ : List ℕ) → Words 64 row → PutInClause row ws base count o
+      → PutInClause row ws base count o′ → o ≡ o′
+  only-put-in row o o′ w p q =
+      let f : Form most = unpack most row in
+      let e : row ≡ pack most f = whole-most row w in
+      p most f (tab count at) most-few e held ∙ sym (q most f (tab count at) most-few e held)

@@ -17,8 +17,8 @@ use Rattle.ground.proofs.Numbers.{bit-ofBits}
 use Rattle.forms.specs.Form.{Form, constant, parameter, xor, putIn, seen, value, names, truth}
 use Rattle.forms.specs.Words.{most, pack, unpack, ofTerms}
 use Rattle.forms.specs.Area.{rowAt, putRows, formIn, Holds}
-use Rattle.forms.specs.Rows.{OfForm, WithRows}
-use Rattle.forms.specs.inside.Steps.{Next, Lone, Tables, PutTerms, RowOf, onlyNamed, TableOf, TablesOf}
+use Rattle.forms.specs.Rows.{OfForm, OfRow, WithRows}
+use Rattle.forms.specs.inside.Steps.{Next, Lone, Tables, PutTerms, onlyNamed, TableOf, TablesOf}
 use Rattle.forms.proofs.Values.{value-agree, value-putIn, canonical}
 use Rattle.forms.proofs.Depends.{putIn-constant, putIn-parameter, putIn-xor, putIn-same}
 use Rattle.forms.proofs.Depends.{depends-names, names-depends}
@@ -31,17 +31,17 @@ use Rattle.forms.proofs.Reading.{read-constant, read-parameter}
 use Rattle.forms.proofs.Areas.{row-put, row-kept, row-past}
 
 -- no row there, one past the area's end, and one in it
-pub row-none : (ws : List ℕ) (base count j : ℕ) → count ≤ j → RowOf ws base count j (replicate 64 0)
+pub row-none : (ws : List ℕ) (base count j : ℕ) → count ≤ j → OfRow ws base count j (replicate 64 0)
 row-none ws base count j h m rows holds =
     let past : length rows ≤ j = omega (arith, holds .long) in
     pack-false m ∙ ap (pack m) (sym (List·getD-eq-default rows (constant m false) past))
 
 pub row-far : (ws : List ℕ) (base count j : ℕ) → j < count → length ws < base + j
-    → RowOf ws base count j (replicate 64 0)
+    → OfRow ws base count j (replicate 64 0)
 row-far ws base count j h l m rows holds = sym (row-past ws (base + j) (omega arith)) ∙ holds .row j h
 
 pub row-here : (ws : List ℕ) (base count j : ℕ) (r : List ℕ) → j < count → r ≡ rowAt ws (base + j)
-    → RowOf ws base count j r
+    → OfRow ws base count j r
 row-here ws base count j r h e m rows holds = e ∙ holds .row j h
 
 -- the table of a row that is not named, and of one that is
@@ -54,7 +54,7 @@ table-none ws base count named j h rows holds =
     ∙ ap (pack most) (sym (truth-false most)
     ∙ ap (λ b. truth most (cond b (formIn most rows j) (constant most false))) (sym even))
 
-pub table-here : (ws row r : List ℕ) (base count named j : ℕ) → (named / 2 ^ j % 2 ≡ 0 → ⊥) → RowOf ws base count j row
+pub table-here : (ws row r : List ℕ) (base count named j : ℕ) → (named / 2 ^ j % 2 ≡ 0 → ⊥) → OfRow ws base count j row
     → ((f : Form most) → row ≡ pack most f → r ≡ pack most (truth most f)) → TableOf ws base count named j r
 unfolding onlyNamed
 table-here ws row r base count named j h at made rows holds =
@@ -169,7 +169,7 @@ put-constant row ws base count k next end m f rows few e holds =
     (same ∙ sym (ap (λ g. putIn m m g (formIn m rows)) same ∙ putIn-constant m m (bitAt row 0) (formIn m rows)))
 
 -- a parameter is the row put in for it, and its negation that row's
-pub put-lone : (row ws r : List ℕ) (base count p : ℕ) → Lone row p → p < 12 → RowOf ws base count p r
+pub put-lone : (row ws r : List ℕ) (base count p : ℕ) → Lone row p → p < 12 → OfRow ws base count p r
     → WithRows row ws base count (set r 0 (bitXor (getD r 0 0) (getD row 0 0 % 2)))
 unfolding bitAt
 put-lone row ws r base count p lone h at m f rows few e holds =

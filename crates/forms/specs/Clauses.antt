@@ -9,7 +9,7 @@ use Rattle.forms.specs.declared.rows.Truth.{Truth}
 use Rattle.forms.specs.Form.{constant, parameter, xor, and, or, names, value}
 use Rattle.forms.specs.Words.{pack, fits}
 use Rattle.forms.specs.Area.{rowAt, putRows}
-use Rattle.forms.specs.Rows.{OfForm, OfForms, WithRows, whichConstant}
+use Rattle.forms.specs.Rows.{OfForm, OfForms, OfRow, WithRows, whichConstant}
 
 -- the row of true, or of false
 abbrev pub ConstantClause : Bool → List ℕ → Type 0
@@ -54,6 +54,10 @@ ValueClause row setting o = OfForm (λ m f. value m f (bit setting)) row o
 -- the row at a place
 abbrev pub LoadClause : (ws : List ℕ) (place : ℕ) → List ℕ → Type 0
 LoadClause ws place o = o ≡ rowAt ws place
+
+-- row j of the count rows from base on
+abbrev pub RowOfClause : (ws : List ℕ) (base count j : ℕ) → List ℕ → Type 0
+RowOfClause ws base count j o = OfRow ws base count j o
 
 -- the area with a row put at a place
 abbrev pub StoreClause : (ws : List ℕ) (place : ℕ) (row : List ℕ) → List ℕ → Type 0

@@ -17,6 +17,10 @@ OfForm answer row r = (m : ℕ) (f : Form m) → m ≤ 12 → row ≡ pack m f �
 abbrev pub OfForms : ((m : ℕ) → Form m → Form m → Form m) → List ℕ → List ℕ → List ℕ → Type 0
 OfForms made a b r = (m : ℕ) (f g : Form m) → m ≤ 12 → a ≡ pack m f → b ≡ pack m g → r ≡ pack m (made m f g)
 
+-- the answer is the row of form j of an area's rows; false from count on
+abbrev pub OfRow : List ℕ → ℕ → ℕ → ℕ → List ℕ → Type 0
+OfRow ws base count j r = (m : ℕ) (rows : List (Form m)) → Holds m ws base count rows → r ≡ pack m (formIn m rows j)
+
 -- the answer is the row's form with the forms of an area's rows put in, and false for parameters from count on
 abbrev pub WithRows : List ℕ → List ℕ → ℕ → ℕ → List ℕ → Type 0
 WithRows row ws base count r =

@@ -2,7 +2,7 @@
 ghost use mathlib.Core.Path.{_≡_};
 ghost use Prim.Native.Nat.{_+_, _*_, min};
 ghost use Rattle.forms.specs.Area.{putRows};
-ghost use Rattle.forms.specs.Clauses.{LoadClause, StoreClause, ClearClause};
+ghost use Rattle.forms.specs.Clauses.{LoadClause, RowOfClause, StoreClause, ClearClause};
 
 // The word at which the count rows from base on end, or the area's end where that comes first.
 fn edge(len: usize, base: usize, count: usize) -> usize
@@ -29,6 +29,22 @@ pub fn load(area: &[u64], place: usize) -> [u64; 64]
         row[k % 64] = area[k];
     }
     row
+}
+
+// Row j of the count rows from base on; false from count on.
+pub fn row_of(area: &[u64], base: usize, count: usize, j: usize) -> [u64; 64]
+    ensures { λ r. ⌜ RowOfClause (now (area .entry)) base count j r ⌝ }
+{
+    if count <= j {
+        return [0u64; 64];
+    }
+    if area.len() < base {
+        return [0u64; 64];
+    }
+    if area.len() - base < j {
+        return [0u64; 64];
+    }
+    load(area, base + j)
 }
 
 // One row, put at count places from base on; nothing is written past the area's end.

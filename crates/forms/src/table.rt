@@ -1,5 +1,5 @@
 // The truth values of a row, and putting rows in by them.
-use crate::area::load;
+use crate::area::row_of;
 use crate::area::store;
 use crate::rows::names;
 use crate::scan::lone;
@@ -10,7 +10,7 @@ ghost use Rattle.forms.specs.Form.{Form, truth};
 ghost use Rattle.forms.specs.Words.{most, pack};
 ghost use Rattle.forms.specs.Area.{rowAt};
 ghost use Rattle.forms.specs.Rows.{WithRows};
-ghost use Rattle.forms.specs.inside.Steps.{PassedWord, Passed, Mixed, PutTerms, RowOf, TableOf, TablesOf};
+ghost use Rattle.forms.specs.inside.Steps.{PassedWord, Passed, Mixed, PutTerms, TableOf, TablesOf};
 ghost use Rattle.forms.specs.Clauses.{PutInClause, ValueClause};
 
 // The bits of a word whose number lacks parameter p.
@@ -100,20 +100,6 @@ fn put_terms(row: &[u64; 64], tables: &[u64; 768], p: usize, k: usize) -> [u64; 
     mix(a, tables, q, b)
 }
 
-// Row j of the count rows from base on; false from count on.
-fn row_at(area: &[u64], base: usize, count: usize, j: usize) -> [u64; 64]
-    requires { ⌜ j < 12 ⌝ }
-    ensures { λ r. ⌜ RowOf (now (area .entry)) base count j r ⌝ }
-{
-    if count <= j {
-        return [0u64; 64];
-    }
-    if area.len() < base {
-        return [0u64; 64];
-    }
-    load(area, base + j)
-}
-
 // The truth values of row j of the count rows from base on, and of false where bit j of the mask is not set.
 fn table_at(area: &[u64], base: usize, count: usize, named: usize, j: usize) -> [u64; 64]
     requires { ⌜ j < 12 ⌝ }
@@ -122,7 +108,7 @@ fn table_at(area: &[u64], base: usize, count: usize, named: usize, j: usize) -> 
     if (named >> j) % 2 == 0 {
         return [0u64; 64];
     }
-    truth_of(row_at(area, base, count, j))
+    truth_of(row_of(area, base, count, j))
 }
 
 // The truth values of the first twelve of the count rows from base on, and of false for those that are not named.
@@ -156,7 +142,7 @@ pub fn put_in(row: [u64; 64], area: &[u64], base: usize, count: usize) -> [u64; 
     }
     let p = lone(&row);
     if p < 12 {
-        let mut r = row_at(area, base, count, p);
+        let mut r = row_of(area, base, count, p);
         r[0] = r[0] ^ (row[0] % 2);
         return r;
     }

@@ -20,26 +20,31 @@ use Rattle.forms.specs.Area.{formIn}
 use Rattle.forms.proofs.Values.{value-constant}
 use Rattle.meaning.specs.Interval.{inside, shifted}
 use Rattle.meaning.specs.Rule.{Node, holds}
+use Rattle.meaning.specs.Rewriting.{derivedRow}
 use Rattle.meaning.proofs.Blocks.{block-low, one-new, length-one, length-block}
 use Rattle.meaning.proofs.Ending.{endValue, derived-end}
+use Rattle.rewriting.specs.declared.row.Row.the-variants.{Derived}
 use Rattle.rewriting.specs.declared.step.Step.{Step}
+use Rattle.rewriting.specs.declared.step.Neighbour.the-variants.{None}
 use Rattle.rewriting.specs.Decode.{nodeOf, nodeFor}
-use Rattle.rewriting.specs.inside.Steps.{intervalIn, entryIn}
-use Rattle.rewriting.specs.inside.Endings.{Settled, lastRow, OfEnd, OfEnds}
-use Rattle.rewriting.proofs.Nodes.{nodeAs, kind-quiet, kind-past}
+use Rattle.rewriting.specs.inside.Steps.{neighbourOf, intervalIn, entryIn, rowBy, madeOf}
+use Rattle.rewriting.specs.inside.Endings.{Settled, OfEnd, OfEnds}
+use Rattle.rewriting.proofs.Nodes.{atShift, nodeAs, kind-quiet, kind-past}
 
-module _ (step : Step) (past forms derived : List (Form (step .m))) (setting : ℕ)
+module _ (step : Step) (past forms derived : List (Form (step .m))) (alone : step .neighbour ≡ None) (setting : ℕ)
     (settled : Settled (step .m) derived setting) (b : Bool) where
   abbrev endOf : Node → Bool
   endOf d = endValue (step .m) past forms (bit setting) (entryIn step) (step .first) d (step .shift)
 
   abbrev Ends : Type 0
-  Ends = lastRow step past forms derived (step .shift) ≡ constant (step .m) b
+  Ends = madeOf Derived step derived past forms (nodeFor (step .record)) (step .shift) ≡ constant (step .m) b
 
   end-is : b ≡ endOf (nodeFor (step .record)) → Ends
-  unfolding lastRow
+  unfolding madeOf rowBy neighbourOf
   end-is e =
-      derived-end (step .m) derived (bit setting) settled past forms (entryIn step) (step .first)
+      ap (λ x. derivedRow (step .m) past forms derived (entryIn step) (neighbourOf x) (step .first)
+      (nodeFor (step .record)) (step .shift)) alone
+      ∙ derived-end (step .m) derived (bit setting) settled past forms (entryIn step) (step .first)
       (nodeFor (step .record)) (step .shift)
       ∙ ap (constant (step .m)) (sym e)
 
@@ -147,32 +152,19 @@ module _ (m : ℕ) where
       (append-assoc rows (tab n g) (g n ∷ []) ∙ ap (λ k. rows ++ tab k g) (sym (add-one n)))
       (settled-one (rows ++ tab n g) (o + n) setting r (g n) b (length-block rows g n o l) s e w)
 
--- a step at another shift
-abbrev pub atShift : Step → ℕ → Step
-atShift step n =
-    record {
-      «record» = step .record;
-      first = step .first;
-      shift = n;
-      m = step .m;
-      here = step .here;
-      signals = step .signals;
-      neighbour = step .neighbour;
-    }
-
 -- a record's shifts: none, one more, and all of them
 module _ (step : Step) (fs : List ℕ) (k : ℕ) (ws : List ℕ) (setting : ℕ) where
   pub ends-none : OfEnds step 0 fs k ws setting setting
-  ends-none past forms derived hp hf hl hs =
-      settled-none (step .m) derived (lastRow step past forms derived) setting hs
+  ends-none past forms derived alone hp hf hl hs =
+      settled-none (step .m) derived (madeOf Derived step derived past forms (nodeFor (step .record))) setting hs
 
   pub ends-more : (grown n r : ℕ) (b : Bool) → OfEnds step n fs k ws setting grown
       → OfEnd (atShift step n) fs k ws setting b
       → ((t : ℕ) → bit r t ≡ (bit grown t || (b && eqb (step .first + n) t))) → OfEnds step (n + 1) fs k ws setting r
-  unfolding lastRow entryIn
-  ends-more grown n r b old new w past forms derived hp hf hl hs =
-      settled-more (step .m) derived (lastRow step past forms derived) (step .first) n grown r b hl
-      (old past forms derived hp hf hl hs) (new past forms derived hp hf hs) w
+  unfolding madeOf entryIn
+  ends-more grown n r b old new w past forms derived alone hp hf hl hs =
+      settled-more (step .m) derived (madeOf Derived step derived past forms (nodeFor (step .record))) (step .first)
+      n grown r b hl (old past forms derived alone hp hf hl hs) (new past forms derived alone hp hf hs) w
 
   pub ends-done : (r n count : ℕ) → OfEnds step n fs k ws setting r → n ≤ count → count ≤ n
       → OfEnds step count fs k ws setting r

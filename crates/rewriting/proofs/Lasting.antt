@@ -1,6 +1,6 @@
 -- The setting of a rule's parameters, were this the last record, and the value that it gives.
 -- Assumes nothing.
-use mathlib.Core.Path.{_≡_, sym, ap, ap₂, _∙_, subst}
+use mathlib.Core.Path.{_≡_, refl, sym, ap, ap₂, _∙_, subst}
 use mathlib.Core.Bool.{Bool}
 use mathlib.Core.List.{List, _++_}
 use Prim.Native.Nat.{ℕ, _+_, _≤_, _<_}
@@ -25,9 +25,9 @@ use Rattle.rewriting.specs.declared.step.Neighbour.the-variants.{None}
 use Rattle.rewriting.specs.Decode.{nodeIn, nodeFor}
 use Rattle.rewriting.specs.Known.{pastIn, knownIn, formAt}
 use Rattle.rewriting.specs.Plans.{ruleFor, entryFor, readIn, Ready}
-use Rattle.rewriting.specs.inside.Steps.{entryIn}
+use Rattle.rewriting.specs.inside.Steps.{neighbourOf, entryIn, rowBy, madeOf}
 use Rattle.rewriting.specs.inside.Walks.{Begins}
-use Rattle.rewriting.specs.inside.Endings.{Settled, lastRow, OfEnds, lastRows}
+use Rattle.rewriting.specs.inside.Endings.{Settled, OfEnds, lastRows}
 use Rattle.rewriting.proofs.Rules.{length-ruleIn, node-in}
 use Rattle.rewriting.proofs.Placed.{tidy-held}
 use Rattle.rewriting.proofs.Tables.{forms-held}
@@ -59,7 +59,7 @@ module _ (list : List ℕ) (plan : Plan) (last : Moment) (ws : List ℕ) where
       → k < plan .records → first ≡ firstOf (ruleFor list plan) k → c ≡ count (nodeIn list k)
       → Begins list k first (plan .m) last None step → Settled (plan .m) (lastRows list plan last ws k) setting
       → OfEnds step c fs k ws setting r → Settled (plan .m) (lastRows list plan last ws (k + 1)) r
-  unfolding lastRow entryIn
+  unfolding madeOf rowBy neighbourOf entryIn
   last-more fs ready k first c setting r step h e q b s ends =
       let m = plan .m in
       let rule = ruleFor list plan in
@@ -72,7 +72,7 @@ module _ (list : List ℕ) (plan : Plan) (last : Moment) (ws : List ℕ) where
       ∙ ap₂ (λ i x. rows ++ tab (count (nodeIn list k)) (derivedRow m past forms rows (entryFor last) none i x)) e
       (b .node)
       ∙ sym (lastRows-more list plan last ws k h))
-      (subst (λ x. OfEnds x c fs k ws setting r) (b .same) ends past forms rows
+      (subst (λ x. OfEnds x c fs k ws setting r) (b .same) ends past forms rows refl
       (tidy-held (plan .places) m ws (ready .2) (ready .0 .few))
       (forms-held m rule k (plan .records) fs (omega arith) (ready .1))
       (length-lastRows list plan last ws k ∙ sym e) s)

@@ -8,6 +8,7 @@ pub mod Counting
 pub mod Placed
 pub mod Written
 pub mod Tables
+pub mod Making
 pub mod Walking
 pub mod Endings
 pub mod Lasting

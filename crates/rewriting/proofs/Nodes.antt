@@ -11,13 +11,15 @@ use Rattle.ground.specs.Bits.{bit}
 use Rattle.forms.specs.Form.{Form, constant, parameter}
 use Rattle.forms.specs.Words.{pack}
 use Rattle.forms.specs.Area.{formIn}
-use Rattle.meaning.specs.Rule.{Node, fixed, both, either, next, until, previous, since, holds}
+use Rattle.meaning.specs.Rule.{Node, fixed, signal, both, either, next, until, previous, since, holds}
 use Rattle.meaning.specs.Rewriting.{put, nextRow, derivedRow, pastRow}
+use Rattle.rewriting.specs.declared.row.Row.{Row}
+use Rattle.rewriting.specs.declared.row.Row.the-variants.{Derived, Past}
 use Rattle.rewriting.specs.declared.step.Record.{Record}
 use Rattle.rewriting.specs.declared.step.Step.{Step}
 use Rattle.rewriting.specs.Decode.{intervalOf, nodeOf, nodeFor}
-use Rattle.rewriting.specs.inside.Steps.{neighbourOf, intervalIn, entryIn, laterOf, untilOf, derivedOf}
-use Rattle.rewriting.specs.inside.Steps.{previousOf, earlierOf, sinceOf, pastOf}
+use Rattle.rewriting.specs.inside.Steps.{neighbourOf, intervalIn, entryIn, rowBy, madeOf, OfMade, nowOr, laterOf}
+use Rattle.rewriting.specs.inside.Steps.{previousOf, earlierOf}
 
 -- a kind past 5 that is neither next nor until
 pub kind-late : (kind : ℕ) → 6 ≤ kind → (kind ≡ 6 → ⊥) → (kind ≡ 7 → ⊥) → 8 ≤ kind
@@ -88,95 +90,120 @@ pub row-as : (m : ℕ) (F : Node → Form m) (d : Record) (r : List ℕ) (kind :
 unfolding nodeFor
 row-as m F d r kind e h = h ∙ ap (λ k. pack m (F (nodeAs d k))) (sym e)
 
--- a step's derived row with another record of the rule in its place
-abbrev derivedWith : (step : Step) → (past forms derived : List (Form (step .m))) → Node → Form (step .m)
-derivedWith step past forms derived d =
-    derivedRow (step .m) past forms derived (entryIn step) (neighbourOf (step .neighbour)) (step .first) d
-    (step .shift)
+-- a step at another shift
+abbrev pub atShift : Step → ℕ → Step
+atShift step n =
+    record {
+      «record» = step .record;
+      first = step .first;
+      shift = n;
+      m = step .m;
+      here = step .here;
+      signals = step .signals;
+      neighbour = step .neighbour;
+    }
 
-module _ (step : Step) (past forms derived : List (Form (step .m))) (r : List ℕ) where
-  derived-as : (kind : ℕ) → step .record .kind ≡ kind
-      → r ≡ pack (step .m) (derivedWith step past forms derived (nodeAs (step .record) kind))
-      → r ≡ pack (step .m) (derivedOf step past forms derived)
-  unfolding derivedOf
-  derived-as kind e h = row-as (step .m) (derivedWith step past forms derived) (step .record) r kind e h
+-- the row of a step with another record of the rule in its place
+abbrev pub made : Row → (step : Step) → (own other forms : List (Form (step .m))) → Node → Form (step .m)
+made row step own other forms d = madeOf row step own other forms d (step .shift)
 
-  pub derived-signal : (b : Bool) → step .record .kind ≡ 3 → b ≡ bit (step .signals) (step .record .left)
-      → r ≡ pack (step .m) (constant (step .m) b) → r ≡ pack (step .m) (derivedOf step past forms derived)
-  unfolding derivedRow nodeOf entryIn holds
-  derived-signal b e i h = derived-as 3 e (h ∙ ap (λ t. pack (step .m) (constant (step .m) t)) i)
+module _ (row : Row) (step : Step) (own other forms : List (Form (step .m))) (r : List ℕ) where
+  -- r is the step's row
+  abbrev pub Makes : Type 0
+  Makes = r ≡ pack (step .m) (made row step own other forms (nodeFor (step .record)))
 
+  made-as : (kind : ℕ) → step .record .kind ≡ kind
+      → r ≡ pack (step .m) (made row step own other forms (nodeAs (step .record) kind)) → Makes
+  made-as kind e h = row-as (step .m) (made row step own other forms) (step .record) r kind e h
+
+-- an equal choice of the row
+pub made-by : (row row′ : Row) (step : Step) (fs : List ℕ) (k : ℕ) (ws : List ℕ) (scratch held : ℕ) (r : List ℕ)
+    → row ≡ row′ → OfMade row′ step fs k ws scratch held r → OfMade row step fs k ws scratch held r
+made-by row row′ step fs k ws scratch held r e h = subst (λ x. OfMade x step fs k ws scratch held r) (sym e) h
+
+-- whichever row it is, a signal's is its constant, and of a record without parameters it is false
+module _ (step : Step) (own other forms : List (Form (step .m))) where
+  signal-made : (row : Row) (s : ℕ)
+      → made row step own other forms (signal s) ≡ constant (step .m) (holds (entryIn step) s)
+  unfolding madeOf rowBy derivedRow pastRow
+  signal-made Derived s = refl
+  signal-made Past s = refl
+
+  fixed-made : (row : Row) (b : Bool) → made row step own other forms (fixed b) ≡ constant (step .m) false
+  unfolding madeOf rowBy derivedRow pastRow
+  fixed-made Derived b = refl
+  fixed-made Past b = refl
+
+  both-made : (row : Row) (l r : ℕ) → made row step own other forms (both l r) ≡ constant (step .m) false
+  unfolding madeOf rowBy derivedRow pastRow
+  both-made Derived l r = refl
+  both-made Past l r = refl
+
+  either-made : (row : Row) (l r : ℕ) → made row step own other forms (either l r) ≡ constant (step .m) false
+  unfolding madeOf rowBy derivedRow pastRow
+  either-made Derived l r = refl
+  either-made Past l r = refl
+
+module _ (row : Row) (step : Step) (own other forms : List (Form (step .m))) (r : List ℕ) where
+  pub made-signal : (b : Bool) → step .record .kind ≡ 3 → b ≡ bit (step .signals) (step .record .left)
+      → r ≡ pack (step .m) (constant (step .m) b) → Makes row step own other forms r
+  unfolding nodeOf entryIn holds
+  made-signal b e i h =
+      made-as row step own other forms r 3 e
+      (h ∙ ap (λ t. pack (step .m) (constant (step .m) t)) i
+      ∙ ap (pack (step .m)) (sym (signal-made step own other forms row (step .record .left))))
+
+  pub made-quiet : 1 ≤ step .record .kind → step .record .kind < 6 → (step .record .kind ≡ 3 → ⊥)
+      → r ≡ pack (step .m) (constant (step .m) false) → Makes row step own other forms r
+  unfolding nodeFor
+  made-quiet a b n h =
+      h ∙ ap (pack (step .m))
+      (sym (kind-quiet (λ d. made row step own other forms d ≡ constant (step .m) false) _ _ _ _
+      (fixed-made step own other forms row true) (fixed-made step own other forms row false)
+      (both-made step own other forms row _ _) (either-made step own other forms row _ _) (step .record .kind) a b n))
+
+-- the derived row of each other kind, from its own row and the rows that it is made of
+module _ (step : Step) (own other forms : List (Form (step .m))) (r : List ℕ) where
   pub derived-next : step .record .kind ≡ 6
       → r ≡ pack (step .m) (nextRow (step .m) forms (step .record .left) (intervalIn step) (step .here)
-      (neighbourOf (step .neighbour))) → r ≡ pack (step .m) (derivedOf step past forms derived)
-  unfolding derivedRow nodeOf entryIn intervalIn
-  derived-next e h = derived-as 6 e h
+      (neighbourOf (step .neighbour))) → Makes Derived step own other forms r
+  unfolding madeOf rowBy derivedRow nodeOf entryIn intervalIn
+  derived-next e h = made-as Derived step own other forms r 6 e h
 
-  pub derived-until : step .record .kind ≡ 7 → r ≡ pack (step .m) (untilOf step forms derived)
-      → r ≡ pack (step .m) (derivedOf step past forms derived)
-  unfolding derivedRow nodeOf entryIn intervalIn untilOf laterOf
-  derived-until e h = derived-as 7 e h
-
-  pub derived-quiet : 1 ≤ step .record .kind → step .record .kind < 6 → (step .record .kind ≡ 3 → ⊥)
-      → r ≡ pack (step .m) (constant (step .m) false) → r ≡ pack (step .m) (derivedOf step past forms derived)
-  unfolding derivedOf derivedRow nodeFor
-  derived-quiet a b n h =
-      h ∙ ap (pack (step .m))
-      (sym (kind-quiet (λ d. derivedWith step past forms derived d ≡ constant (step .m) false) _ _ _ _ refl refl refl
-      refl (step .record .kind) a b n))
+  pub derived-until : step .record .kind ≡ 7
+      → r ≡ pack (step .m) (nowOr step (formIn (step .m) forms (step .record .right)) (laterOf step forms own) own)
+      → Makes Derived step own other forms r
+  unfolding madeOf rowBy derivedRow nodeOf entryIn intervalIn nowOr laterOf
+  derived-until e h = made-as Derived step own other forms r 7 e h
 
   pub derived-past : 8 ≤ step .record .kind
-      → r ≡ pack (step .m) (put (step .m) (formIn (step .m) past (step .first + step .shift)) derived)
-      → r ≡ pack (step .m) (derivedOf step past forms derived)
-  unfolding derivedOf derivedRow nodeFor
+      → r ≡ pack (step .m) (put (step .m) (formIn (step .m) other (step .first + step .shift)) own)
+      → Makes Derived step own other forms r
+  unfolding madeOf rowBy derivedRow nodeFor
   derived-past a h =
       h ∙ ap (pack (step .m))
-      (sym (kind-past (λ d. derivedWith step past forms derived d ≡ found) _ _ _ _ refl refl (step .record .kind) a))
+      (sym (kind-past (λ d. made Derived step own other forms d ≡ found) _ _ _ _ refl refl (step .record .kind) a))
     where
       found : Form (step .m)
-      found = put (step .m) (formIn (step .m) past (step .first + step .shift)) derived
+      found = put (step .m) (formIn (step .m) other (step .first + step .shift)) own
 
--- a step's past row with another record of the rule in its place
-abbrev pastWith : (step : Step) → (forms derived past : List (Form (step .m))) → Node → Form (step .m)
-pastWith step forms derived past d =
-    pastRow (step .m) forms derived past (entryIn step) (neighbourOf (step .neighbour)) (step .first) d (step .shift)
-
-module _ (step : Step) (forms derived past : List (Form (step .m))) (r : List ℕ) where
-  past-as : (kind : ℕ) → step .record .kind ≡ kind
-      → r ≡ pack (step .m) (pastWith step forms derived past (nodeAs (step .record) kind))
-      → r ≡ pack (step .m) (pastOf step forms derived past)
-  unfolding pastOf
-  past-as kind e h = row-as (step .m) (pastWith step forms derived past) (step .record) r kind e h
-
-  pub past-signal : (b : Bool) → step .record .kind ≡ 3 → b ≡ bit (step .signals) (step .record .left)
-      → r ≡ pack (step .m) (constant (step .m) b) → r ≡ pack (step .m) (pastOf step forms derived past)
-  unfolding pastRow nodeOf entryIn holds
-  past-signal b e i h = past-as 3 e (h ∙ ap (λ t. pack (step .m) (constant (step .m) t)) i)
-
-  pub past-quiet : 1 ≤ step .record .kind → step .record .kind < 6 → (step .record .kind ≡ 3 → ⊥)
-      → r ≡ pack (step .m) (constant (step .m) false) → r ≡ pack (step .m) (pastOf step forms derived past)
-  unfolding pastOf pastRow nodeFor
-  past-quiet a b n h =
-      h ∙ ap (pack (step .m))
-      (sym (kind-quiet (λ d. pastWith step forms derived past d ≡ constant (step .m) false) _ _ _ _ refl refl refl
-      refl (step .record .kind) a b n))
-
+  -- and the past row
   pub past-self : 6 ≤ step .record .kind → step .record .kind < 8
-      → r ≡ pack (step .m) (parameter (step .m) (step .first + step .shift))
-      → r ≡ pack (step .m) (pastOf step forms derived past)
-  unfolding pastOf pastRow nodeFor
+      → r ≡ pack (step .m) (parameter (step .m) (step .first + step .shift)) → Makes Past step own other forms r
+  unfolding madeOf rowBy pastRow nodeFor
   past-self a b h =
       h ∙ ap (pack (step .m))
-      (sym (kind-future (λ d. pastWith step forms derived past d ≡ parameter (step .m) (step .first + step .shift))
+      (sym (kind-future (λ d. made Past step own other forms d ≡ parameter (step .m) (step .first + step .shift))
       _ _ _ _ refl refl (step .record .kind) a b))
 
-  pub past-previous : step .record .kind ≡ 8 → r ≡ pack (step .m) (previousOf step forms derived past)
-      → r ≡ pack (step .m) (pastOf step forms derived past)
-  unfolding pastRow nodeOf entryIn intervalIn previousOf
-  past-previous e h = past-as 8 e h
+  pub past-previous : step .record .kind ≡ 8 → r ≡ pack (step .m) (previousOf step forms other own)
+      → Makes Past step own other forms r
+  unfolding madeOf rowBy pastRow nodeOf entryIn intervalIn previousOf
+  past-previous e h = made-as Past step own other forms r 8 e h
 
   pub past-since : 8 ≤ step .record .kind → (step .record .kind ≡ 8 → ⊥)
-      → r ≡ pack (step .m) (sinceOf step forms derived past) → r ≡ pack (step .m) (pastOf step forms derived past)
-  unfolding pastOf pastRow nodeFor entryIn intervalIn sinceOf earlierOf
+      → r ≡ pack (step .m) (nowOr step (formIn (step .m) forms (step .record .right)) (earlierOf step forms other own)
+      own) → Makes Past step own other forms r
+  unfolding madeOf rowBy pastRow nodeFor entryIn intervalIn nowOr earlierOf
   past-since a n h =
-      h ∙ ap (λ d. pack (step .m) (pastWith step forms derived past d)) (sym (node-since _ _ _ _ _ a n))
+      h ∙ ap (λ d. pack (step .m) (made Past step own other forms d)) (sym (node-since _ _ _ _ _ a n))

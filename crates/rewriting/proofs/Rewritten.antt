@@ -13,11 +13,16 @@ use Rattle.meaning.specs.Rule.{Node, firstOf, parameters}
 use Rattle.meaning.specs.Rewriting.{none, at, put, derivedRows, pastRows}
 use Rattle.meaning.specs.Words.{leave, feed}
 use Rattle.meaning.proofs.Blocks.{length-derivedRows, length-pastRows}
+use Rattle.rewriting.specs.declared.row.Row.the-variants.{Derived, Past}
+use Rattle.rewriting.specs.declared.step.Neighbour.the-variants.{None, At}
 use Rattle.rewriting.specs.declared.step.Plan.{Plan}
 use Rattle.rewriting.specs.declared.step.Moment.{Moment}
 use Rattle.rewriting.specs.Known.{formAt, pastIn, knownIn, Tidy}
 use Rattle.rewriting.specs.Plans.{ruleFor, entryFor, readIn, areaWith, Sound, formRow}
+use Rattle.rewriting.specs.inside.Steps.{neighbourOf}
+use Rattle.rewriting.specs.inside.Walks.{tableOf, Walked}
 use Rattle.rewriting.proofs.Rules.{length-ruleIn}
+use Rattle.rewriting.proofs.Placed.{tidy-held}
 use Rattle.rewriting.proofs.Feeding.{held-none, first-laid, derived-held, derived-stay, feed-laid, rest-stays}
 
 module _ (list : List ℕ) (plan : Plan) (sound : Sound list plan) where
@@ -34,12 +39,10 @@ module _ (list : List ℕ) (plan : Plan) (sound : Sound list plan) where
 
   module _ (ws : List ℕ) (tidy : Tidy (plan .places) (plan .m) ws) (new : Moment) where
     -- from the steps of the first record
-    pub first-done : (b c : List ℕ)
-        → ((derived : List (Form (plan .m))) → Holds (plan .m) ws (plan .places + 1) 0 derived
-        → b ≡ putRows ws 0 (plan .m) (formRow (plan .m) (pastRows (plan .m) (ruleFor list plan) derived (entryFor new)
-        none (plan .records))))
+    pub first-done : (b c : List ℕ) → Walked Past list plan new None 0 ws b
         → c ≡ putRows b (plan .places + 1) (plan .places + 1) (λ _. replicate 64 0)
         → c ≡ areaWith plan (leave (plan .m) (ruleFor list plan) (formAt (plan .m) ws (plan .places)) (entryFor new))
+    unfolding tableOf neighbourOf
     first-done b c p q =
         first-laid (plan .places) (plan .m) ws tidy (sound .few)
         (pastRows (plan .m) (ruleFor list plan) [] (entryFor new) none (length (ruleFor list plan))) b c
@@ -53,16 +56,13 @@ module _ (list : List ℕ) (plan : Plan) (sound : Sound list plan) where
 
     -- from the steps of a later record
     pub feed-done : (last : Moment) (a l rest b c d : List ℕ)
-        → a ≡ putRows ws (plan .places + 1) (plan .m) (formRow (plan .m) (derivedRows (plan .m) (ruleFor list plan)
-        (pastIn (plan .m) ws) (entryFor last) (at (new .time)) (plan .records)))
+        → Walked Derived list plan last (At (new .time)) (plan .m) ws a
         → l ≡ rowAt a (plan .places) → WithRows l a (plan .places + 1) (plan .m) rest
         → b ≡ putRows a (plan .places) 1 (λ _. rest)
-        → ((derived : List (Form (plan .m))) → Holds (plan .m) b (plan .places + 1) (plan .m) derived
-        → c ≡ putRows b 0 (plan .m) (formRow (plan .m) (pastRows (plan .m) (ruleFor list plan) derived (entryFor new)
-        (at (last .time)) (plan .records))))
+        → Walked Past list plan new (At (last .time)) (plan .m) b c
         → d ≡ putRows c (plan .places + 1) (plan .places + 1) (λ _. replicate 64 0)
         → d ≡ areaWith plan (feed (plan .m) (ruleFor list plan) (readIn plan ws last) (entryFor new))
-    unfolding feed knownIn put
+    unfolding feed knownIn put tableOf neighbourOf
     feed-done last a l rest b c d p load h q r clear =
         feed-laid places m ws tidy (sound .few) derived a long-derived made remainder b stored past c d
         (length-pastRows m rule derived (entryFor new) (at (last .time)) (length rule) ∙ plan-firsts)
@@ -99,7 +99,7 @@ module _ (list : List ℕ) (plan : Plan) (sound : Sound list plan) where
             subst
             (λ n. a ≡ putRows ws (places + 1) m (formRow m (derivedRows m rule (pastIn m ws) (entryFor last)
             (at (new .time)) n)))
-            plan-whole p
+            plan-whole (p (pastIn m ws) (tidy-held places m ws tidy (sound .few)))
 
         held : Holds (plan .m) a (plan .places + 1) (plan .m) derived
         held = derived-held places m ws tidy (sound .few) derived a long-derived made

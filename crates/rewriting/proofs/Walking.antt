@@ -1,30 +1,29 @@
 -- One turn of the loops over a rule's records: the rows of one record more.
 -- Assumes nothing.
 use mathlib.Core.Path.{_≡_, refl, sym, ap, ap₂, _∙_, subst}
-use mathlib.Core.Logic.{inl, inr}
 use mathlib.Core.List.{List}
 use Prim.Native.Nat.{ℕ, _+_, _≤_, _<_}
+use native.Mathlib.Nat.{le-refl}
 use native.Mathlib.Omega.{arith}
 use lib.ListN.{length}
 use Rattle.forms.specs.Form.{Form}
 use Rattle.forms.specs.Words.{pack}
 use Rattle.forms.specs.Area.{putRows, Holds}
 use Rattle.meaning.specs.Rule.{nodeAt, count, firstOf}
-use Rattle.meaning.specs.Rewriting.{formsOf, derivedRow, derivedRows, pastRow, pastRows}
-use Rattle.meaning.proofs.Blocks.{firstOf-fits, length-derivedRows, length-pastRows}
-use Rattle.meaning.proofs.Whole.{derived-more, derived-made, past-more, past-made}
+use Rattle.meaning.specs.Rewriting.{formsOf}
+use Rattle.meaning.proofs.Blocks.{firstOf-fits}
+use Rattle.rewriting.specs.declared.row.Row.{Row}
 use Rattle.rewriting.specs.declared.step.Step.{Step}
 use Rattle.rewriting.specs.declared.step.Neighbour.{Neighbour}
 use Rattle.rewriting.specs.declared.step.Plan.{Plan}
 use Rattle.rewriting.specs.declared.step.Moment.{Moment}
 use Rattle.rewriting.specs.Decode.{nodeIn, nodeFor}
-use Rattle.rewriting.specs.Known.{wordsFor, pastIn, Tidy}
+use Rattle.rewriting.specs.Known.{wordsFor}
 use Rattle.rewriting.specs.Plans.{ruleFor, entryFor, Sound, HoldsForms, formRow}
-use Rattle.rewriting.specs.inside.Steps.{neighbourOf, entryIn, Fair}
-use Rattle.rewriting.specs.inside.Walks.{stepOf, Begins, derivedAt, PutsDerived, derivedFor}
-use Rattle.rewriting.specs.inside.Walks.{pastAt, PutsPast, pastFor}
+use Rattle.rewriting.specs.inside.Steps.{neighbourOf, entryIn, Fair, ownAt, otherAt, rowBy, madeOf}
+use Rattle.rewriting.specs.inside.Walks.{stepOf, Begins, Apart, madeRow, Puts, tableOf, rowsFor}
 use Rattle.rewriting.proofs.Counting.{firstOf-rule, parameters-done}
-use Rattle.rewriting.proofs.Placed.{tidy-held}
+use Rattle.rewriting.proofs.Making.{own-room, rows-apart, length-table, table-more, table-made}
 use Rattle.rewriting.proofs.Rules.{node-in}
 use Rattle.rewriting.proofs.Tables.{forms-held}
 use Rattle.rewriting.proofs.Written.{wrote-block, held-put, held-kept}
@@ -52,9 +51,9 @@ module _ (list : List ℕ) (plan : Plan) (sound : Sound list plan) (k first c : 
     node-is = b .node ∙ sym (node-in list (plan .records) k less)
 
     -- what the loops over its shifts ask for: the scratch comes after the past rows
-    pub step-ready : Fair step × (step .m ≤ plan .places + 1) × (step .first + c ≤ plan .places + 1)
-    step-ready =
-        subst (λ (s : Step). Fair s × (s .m ≤ plan .places + 1) × (s .first + c ≤ plan .places + 1))
+    pub step-ready : (held : ℕ) → held ≤ plan .m → Fair step × Apart step c (plan .places + 1) held
+    step-ready held h =
+        subst (λ (s : Step). Fair s × Apart s c (plan .places + 1) held)
         (sym (b .same)) (
           record {
             few = omega (arith, sound .few, sound .room);
@@ -62,75 +61,54 @@ module _ (list : List ℕ) (plan : Plan) (sound : Sound list plan) (k first c : 
             byte = omega arith;
             some = subst (λ x. 1 ≤ x) (sym (b .kind)) (sound .kinds k less);
           },
-          omega (arith, sound .few),
-          omega (arith, block-fits, sound .few),
+          record {
+            before = omega (arith, sound .few);
+            behind = omega (arith, block-fits, sound .few);
+            low = omega (arith, sound .room);
+          },
         )
 
-    -- the derived rows of record k
-    pub derived-block : (fs ws area next : List ℕ) → HoldsForms list plan fs → Tidy (plan .places) (plan .m) ws
-        → area ≡ putRows ws (plan .places + 1) first (formRow (plan .m) (derivedFor list plan here near ws))
-        → PutsDerived step c fs k area (plan .places + 1) next
-        → next ≡ putRows ws (plan .places + 1) (first + c) (formRow (plan .m) (derivedFor list plan here near ws))
-    unfolding formRow derivedAt entryIn wordsFor
-    derived-block fs ws area next hf tidy w puts =
+    -- the rows of record k
+    pub rows-block : (row : Row) (held : ℕ) (other : List (Form (plan .m))) (fs ws area next : List ℕ)
+        → HoldsForms list plan fs → length ws ≡ wordsFor (plan .places) → held ≤ plan .m
+        → Holds (plan .m) ws (otherAt row (plan .places + 1)) held other
+        → area
+        ≡ putRows ws (ownAt row (plan .places + 1)) first (formRow (plan .m) (rowsFor row list plan here near other))
+        → Puts row step c fs k area (plan .places + 1) held next
+        → next
+        ≡ putRows ws (ownAt row (plan .places + 1)) (first + c)
+        (formRow (plan .m) (rowsFor row list plan here near other))
+    unfolding formRow madeRow madeOf entryIn wordsFor
+    rows-block row held other fs ws area next hf long few ho w puts =
         let m : ℕ = plan .m in
         let rule = ruleFor list plan in
-        let base : ℕ = plan .places + 1 in
+        let scratch : ℕ = plan .places + 1 in
+        let base : ℕ = ownAt row scratch in
         let e = entryFor here in
-        let other = neighbourOf near in
-        let past : List (Form m) = pastIn m ws in
+        let nb = neighbourOf near in
         let forms : List (Form m) = formsOf m rule k in
-        let few : List (Form m) = derivedRows m rule past e other k in
-        let rows : ℕ → List ℕ = formRow m (derivedFor list plan here near ws) in
-        let made = derivedAt (stepOf (step .record) first m here near) past forms few in
+        let own : List (Form m) = tableOf row m rule other e nb k in
+        let rows : ℕ → List ℕ = formRow m (rowsFor row list plan here near other) in
+        let made = madeRow row (stepOf (step .record) first m here near) own other forms in
         wrote-block ws base rows first c (base + first) made area next w refl
-        (subst (λ s. PutsDerived s c fs k area base next) (b .same) puts past forms few
-        (held-kept m ws 0 m past rows base first area w (inl (omega (arith, sound .few)))
-        (tidy-held (plan .places) m ws tidy (sound .few)))
-        (forms-held m rule k (plan .records) fs (omega arith) hf)
-        (held-put m ws base first few rows area w (length-derivedRows m rule past e other k ∙ sym begins)
-        (omega (arith, tidy .long, block-fits, sound .few))
-        (λ j l.
-        ap (pack m) (derived-more m rule past e other k (plan .records) j (omega arith) (omega (arith, begins))))))
-        (λ i l.
-        ap₂ (λ x y. pack m (derivedRow m past forms few e other x y i)) begins node-is
-        ∙ ap (pack m) (sym (derived-made m rule past e other k (plan .records) i less (omega (arith, count-is))))
-        ∙ ap (λ x. rows (x + i)) (sym begins))
-
-    -- the past rows of record k
-    pub past-block : (held : ℕ) (derived : List (Form (plan .m))) (fs ws area next : List ℕ)
-        → HoldsForms list plan fs → length ws ≡ wordsFor (plan .places)
-        → Holds (plan .m) ws (plan .places + 1) held derived
-        → area ≡ putRows ws 0 first (formRow (plan .m) (pastFor list plan here near derived))
-        → PutsPast step c fs k area (plan .places + 1) held next
-        → next ≡ putRows ws 0 (first + c) (formRow (plan .m) (pastFor list plan here near derived))
-    unfolding formRow pastAt entryIn wordsFor
-    past-block held derived fs ws area next hf long hd w puts =
-        let m : ℕ = plan .m in
-        let rule = ruleFor list plan in
-        let e = entryFor here in
-        let other = neighbourOf near in
-        let forms : List (Form m) = formsOf m rule k in
-        let few : List (Form m) = pastRows m rule derived e other k in
-        let rows : ℕ → List ℕ = formRow m (pastFor list plan here near derived) in
-        let made = pastAt (stepOf (step .record) first m here near) forms derived few in
-        wrote-block ws 0 rows first c first made area next w (omega arith)
-        (subst (λ s. PutsPast s c fs k area (plan .places + 1) held next) (b .same) puts forms derived few
-        (forms-held m rule k (plan .records) fs (omega arith) hf)
+        (subst (λ s. Puts row s c fs k area scratch held next) (b .same) puts own other forms
         (record {
-          behind =
-              held-kept m ws (plan .places + 1) held derived rows 0 first area w
-              (inr (omega (arith, block-fits, sound .few))) hd;
-          front =
-              held-put m ws 0 first few rows area w (length-pastRows m rule derived e other k ∙ sym begins)
-              (omega (arith, long, block-fits, sound .few))
+          mine =
+              held-put m ws base first own rows area w (length-table row m rule other e nb k ∙ sym begins)
+              (own-room row (plan .places) first ws long (omega (arith, block-fits, sound .few)))
               (λ j l.
               ap (pack m)
-              (past-more m rule derived e other k (plan .records) j (omega arith) (omega (arith, begins))));
-        }))
+              (table-more row m rule other e nb k (plan .records) j (omega arith) (omega (arith, begins))));
+          theirs =
+              held-kept m ws (otherAt row scratch) held other rows base first area w
+              (rows-apart row scratch held base first (omega (arith, sound .few)) (le-refl base)
+              (omega (arith, block-fits, sound .few)))
+              ho;
+        })
+        (forms-held m rule k (plan .records) fs (omega arith) hf))
         (λ i l.
-        ap₂ (λ x y. pack m (pastRow m forms derived few e other x y i)) begins node-is
-        ∙ ap (pack m) (sym (past-made m rule derived e other k (plan .records) i less (omega (arith, count-is))))
+        ap₂ (λ x y. pack m (rowBy row m own other forms e nb x y i)) begins node-is
+        ∙ ap (pack m) (sym (table-made row m rule other e nb k (plan .records) i less (omega (arith, count-is))))
         ∙ ap (λ x. rows (x + i)) (sym begins))
 
 -- the parameters of all records are the rule's

@@ -1,6 +1,5 @@
 // The end of a log: every derived row is a constant there, so the parameters have a setting.
 use crate::interval::inside_now;
-use crate::parts::row_of;
 use crate::parts::signal;
 use crate::rule::count_at;
 use crate::step::Moment;
@@ -10,6 +9,7 @@ use crate::step::Step;
 use crate::walk::step_at;
 use forms::area::clear;
 use forms::area::load;
+use forms::area::row_of;
 use forms::area::store;
 use forms::rows::constant;
 use forms::table::value;
@@ -27,7 +27,7 @@ ghost use Rattle.rewriting.specs.Clauses.{ValueIfLastClause, CloseClause
 
 // The value of a record's shift at the end, from a setting that has those of the records before.
 fn end_value(step: Step, forms: &[u64], k: usize, area: &[u64], setting: usize) -> bool
-    requires { ⌜ Fair step × (k ≤ 64) ⌝ }
+    requires { ⌜ Fair step ⌝ }
     ensures { λ r. ⌜ OfEnd step (now (forms .entry)) k (now (area .entry)) setting r ⌝ }
 {
     let kind = step.record.kind;
@@ -63,7 +63,7 @@ fn end_values(
     area: &[u64],
     setting: usize,
 ) -> usize
-    requires { ⌜ Fair step × (k ≤ 64) × (step .first + count ≤ 64) ⌝ }
+    requires { ⌜ Fair step × (step .first + count ≤ 64) ⌝ }
     ensures { λ r. ⌜ OfEnds step count (now (forms .entry)) k (now (area .entry)) setting r ⌝ }
 {
     let mut grown = setting;

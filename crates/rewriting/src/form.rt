@@ -1,6 +1,6 @@
 // A record's form: constants, and, exclusive or are read as such, any other is its parameter of shift 0.
-use crate::parts::row_of;
 use crate::step::Record;
+use forms::area::row_of;
 use forms::join::and;
 use forms::rows::constant;
 use forms::rows::parameter;
@@ -10,7 +10,7 @@ ghost use Rattle.rewriting.specs.inside.Steps.{OfRecord};
 
 // The form of record k, with its first parameter, from the forms of the k records before it.
 pub(crate) fn form_row(record: Record, first: usize, m: usize, forms: &[u64], k: usize) -> [u64; 64]
-    requires { ⌜ (m ≤ 12) × (k ≤ 64) ⌝ }
+    requires { ⌜ m ≤ 12 ⌝ }
     ensures { λ r. ⌜ OfRecord «record» first m (now (forms .entry)) k r ⌝ }
 {
     let kind = record.kind;
@@ -20,15 +20,15 @@ pub(crate) fn form_row(record: Record, first: usize, m: usize, forms: &[u64], k:
     if kind == 2 {
         return constant(false);
     }
+    if kind != 4 {
+        if kind != 5 {
+            return parameter(first, m);
+        }
+    }
+    let left = row_of(forms, 0, k, record.left as usize);
+    let right = row_of(forms, 0, k, record.right as usize);
     if kind == 4 {
-        let left = row_of(forms, 0, k, record.left as usize);
-        let right = row_of(forms, 0, k, record.right as usize);
         return and(left, right);
     }
-    if kind == 5 {
-        let left = row_of(forms, 0, k, record.left as usize);
-        let right = row_of(forms, 0, k, record.right as usize);
-        return xor(left, right);
-    }
-    parameter(first, m)
+    xor(left, right)
 }

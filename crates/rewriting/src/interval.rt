@@ -1,9 +1,10 @@
 // A record's interval, from its low and high byte: what is inside, and what the gap makes of a shift.
+use crate::step::Step;
 ghost use mathlib.Core.Path.{_≡_};
 ghost use Prim.Native.Nat.{ℕ, _<_};
 ghost use Rattle.meaning.specs.Interval.{distance, inside as insideOf, shifted, moved as movedBy};
 ghost use Rattle.rewriting.specs.Decode.{intervalOf};
-ghost use Rattle.rewriting.specs.inside.Steps.{movedOf, Near};
+ghost use Rattle.rewriting.specs.inside.Steps.{movedOf, Near, intervalIn, Fair};
 
 // What a shift becomes.
 pub(crate) enum Shift {
@@ -43,19 +44,21 @@ pub(crate) fn inside_now(low: u8, high: u8, n: usize) -> bool
     low as usize <= n
 }
 
-// What shift n becomes by the gap between the record here and its neighbour.
-pub(crate) fn moved(low: u8, high: u8, n: usize, here: u32, other: u32) -> Shift
-    requires { ⌜ n < 256 ⌝ }
-    ensures { λ r. ⌜ (movedOf r ≡ movedBy (intervalOf low high) n here other) × Near r ⌝ }
+// What the step's shift becomes by the gap between the record here and the other one.
+pub(crate) fn moved(step: Step, other: u32) -> Shift
+    requires { ⌜ Fair step ⌝ }
+    ensures { λ r. ⌜ (movedOf r ≡ movedBy (intervalIn step) (step .shift) (step .here) other) × Near r ⌝ }
 {
-    let later = n + apart(here, other);
+    let later = step.shift + apart(step.here, other);
+    let low = step.record.low as usize;
+    let high = step.record.high as usize;
     if high == 255 {
-        if later < low as usize {
+        if later < low {
             return Shift::To(later);
         }
-        return Shift::To(low as usize);
+        return Shift::To(low);
     }
-    if later <= high as usize {
+    if later <= high {
         return Shift::To(later);
     }
     Shift::Gone

@@ -6,6 +6,7 @@ mod interval;
 pub mod parts;
 mod past;
 pub mod rewrite;
+mod row;
 pub mod rule;
 pub mod step;
 pub mod walk;

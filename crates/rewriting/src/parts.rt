@@ -1,27 +1,18 @@
 // The rows that a record's equations are made of.
 use crate::interval::Shift;
-use forms::area::load;
+use crate::interval::inside_now;
+use crate::step::Step;
+use forms::area::row_of;
 use forms::rows::constant;
+use forms::rows::or;
 use forms::rows::parameter;
 use forms::table::put_in;
 ghost use mathlib.Core.Path.{_≡_};
-ghost use Prim.Native.Nat.{_+_, _≤_};
+ghost use Prim.Native.Nat.{_≤_};
 ghost use Rattle.forms.specs.Words.{pack};
 ghost use Rattle.meaning.specs.Rewriting.{parameterTo};
-ghost use Rattle.rewriting.specs.inside.Steps.{movedOf, Near, OfRow, OfMoved, OnlyRow, OnlyWithRows};
+ghost use Rattle.rewriting.specs.inside.Steps.{movedOf, Near, Fair, OfMoved, OnlyRow, OnlyWithRows, NowOr};
 ghost use Rattle.rewriting.specs.Clauses.{SignalClause};
-
-// Row j of the count rows from base on; false past them.
-pub(crate) fn row_of(area: &[u64], base: usize, count: usize, j: usize) -> [u64; 64]
-    requires { ⌜ base + count ≤ 64 ⌝ }
-    ensures { λ r. ⌜ OfRow (now (area .entry)) base count j r ⌝ }
-{
-    if j < count {
-        load(area, base + j)
-    } else {
-        constant(false)
-    }
-}
 
 // The row with the area's rows put in, if the test passes; else false.
 pub(crate) fn only_put(
@@ -38,6 +29,22 @@ pub(crate) fn only_put(
     } else {
         constant(false)
     }
+}
+
+// Until and since: right with the area's rows put in, if 0 is in the shifted interval, or the second part.
+pub(crate) fn now_or(
+    step: Step,
+    right: [u64; 64],
+    area: &[u64],
+    base: usize,
+    second: [u64; 64],
+) -> [u64; 64]
+    requires { ⌜ Fair step ⌝ }
+    ensures { λ r. ⌜ NowOr step right (now (area .entry)) base second r ⌝ }
+{
+    let test = inside_now(step.record.low, step.record.high, step.shift);
+    let first = only_put(test, right, area, base, step.first);
+    or(first, second)
 }
 
 // The parameter of a moved shift; false where it is gone.
@@ -59,7 +66,7 @@ pub(crate) fn row_to(
     first: usize,
     shift: Shift,
 ) -> [u64; 64]
-    requires { ⌜ (base + count ≤ 64) × (first ≤ 12) × Near shift ⌝ }
+    requires { ⌜ (first ≤ 12) × Near shift ⌝ }
     ensures { λ r. ⌜ OfMoved (now (area .entry)) base count first (movedOf shift) r ⌝ }
 {
     match shift {
@@ -70,7 +77,6 @@ pub(crate) fn row_to(
 
 // Row j of the first count rows, if the test passes; else false.
 pub(crate) fn only_row(test: bool, area: &[u64], count: usize, j: usize) -> [u64; 64]
-    requires { ⌜ count ≤ 64 ⌝ }
     ensures { λ r. ⌜ OnlyRow test (now (area .entry)) count j r ⌝ }
 {
     if test {

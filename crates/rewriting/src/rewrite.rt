@@ -1,10 +1,10 @@
 // A record of the log rewrites the work area: past rows from place 0 on, the remainder behind the places for them,
 // then the scratch.
+use crate::row::Row;
 use crate::step::Moment;
 use crate::step::Neighbour;
 use crate::step::Plan;
-use crate::walk::derive_all;
-use crate::walk::past_all;
+use crate::walk::rule_rows;
 use forms::area::clear;
 use forms::area::load;
 use forms::area::store;
@@ -19,7 +19,8 @@ pub fn first(list: &[u8], plan: Plan, new: Moment, forms: &[u64], area: &mut [u6
         (now (area .exit)) ⌝ }
 {
     let scratch = plan.places + 1;
-    past_all(list, plan, new, Neighbour::None, 0, forms, area);
+    let before = Neighbour::None;
+    rule_rows(Row::Past, list, plan, new, before, 0, forms, area);
     clear(area, scratch, scratch);
 }
 
@@ -30,17 +31,11 @@ pub fn feed(list: &[u8], plan: Plan, last: Moment, new: Moment, forms: &[u64], a
         (now (area .exit)) ⌝ }
 {
     let derived = plan.places + 1;
-    derive_all(list, plan, last, Neighbour::At(new.time), forms, area);
+    let later = Neighbour::At(new.time);
+    rule_rows(Row::Derived, list, plan, last, later, plan.m, forms, area);
     let rest = put_in(load(area, plan.places), area, derived, plan.m);
     store(area, plan.places, rest);
-    past_all(
-        list,
-        plan,
-        new,
-        Neighbour::At(last.time),
-        plan.m,
-        forms,
-        area,
-    );
+    let before = Neighbour::At(last.time);
+    rule_rows(Row::Past, list, plan, new, before, plan.m, forms, area);
     clear(area, derived, derived);
 }

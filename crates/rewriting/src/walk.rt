@@ -1,7 +1,8 @@
 // The loops over a rule's records: their forms into a table, their rows into an area.
-use crate::derived::derived_row;
 use crate::form::form_row;
-use crate::past::past_row;
+use crate::row::Row;
+use crate::row::own_at;
+use crate::row::step_row;
 use crate::rule::count_at;
 use crate::rule::record_at;
 use crate::step::Moment;
@@ -10,12 +11,12 @@ use crate::step::Plan;
 use crate::step::Step;
 use forms::area::store;
 ghost use mathlib.Core.Path.{_≡_};
-ghost use Prim.Native.Nat.{_+_, _*_, _≤_, _<_};
+ghost use Prim.Native.Nat.{_*_, _≤_};
 ghost use lib.ListN.{length};
 ghost use Rattle.rewriting.specs.Known.{wordsFor};
-ghost use Rattle.rewriting.specs.Plans.{Sound, HoldsForms, Ready};
+ghost use Rattle.rewriting.specs.Plans.{Sound, HoldsForms};
 ghost use Rattle.rewriting.specs.inside.Steps.{Fair};
-ghost use Rattle.rewriting.specs.inside.Walks.{Begins, PutsDerived, derivedWith, PutsPast, PastWith};
+ghost use Rattle.rewriting.specs.inside.Walks.{Begins, Apart, Puts, Walked};
 ghost use Rattle.rewriting.specs.Clauses.{FormsOfClause};
 
 // The forms of the first `records` records of the rule, in a table.
@@ -54,49 +55,9 @@ pub(crate) fn step_at(
     }
 }
 
-// The derived rows of the shifts of record k, into the scratch.
-fn derive_record(
-    step: Step,
-    count: usize,
-    forms: &[u64],
-    k: usize,
-    area: &mut [u64],
-    scratch: usize,
-)
-    requires { ⌜ Fair step × (k ≤ 64) × (count ≤ 256) × (step .m ≤ scratch) × (scratch ≤ 64) ⌝ }
-    ensures { λ _. ⌜ PutsDerived step count (now (forms .entry)) k (now (area .entry)) scratch (now (area .exit)) ⌝ }
-{
-    for n in 0..count {
-        let mut turn = step;
-        turn.shift = n;
-        let row = derived_row(turn, forms, k, area, scratch);
-        store(area, scratch + step.first + n, row);
-    }
-}
-
-// The derived rows of the record here, into the scratch.
-pub(crate) fn derive_all(
-    list: &[u8],
-    plan: Plan,
-    here: Moment,
-    later: Neighbour,
-    forms: &[u64],
-    area: &mut [u64],
-)
-    requires { ⌜ Ready (now list) plan (now forms) (now area) ⌝ }
-    ensures { λ _. ⌜ now (area .exit) ≡ derivedWith (now (list .entry)) plan here later (now (area .entry)) ⌝ }
-{
-    let mut first = 0;
-    for k in 0..plan.records {
-        let step = step_at(list, k, first, plan.m, here, later);
-        let count = count_at(list, k);
-        derive_record(step, count, forms, k, area, plan.places + 1);
-        first += count;
-    }
-}
-
-// The past rows of the shifts of record k. The scratch has the held derived rows of the log record before.
-fn past_record(
+// The rows of the shifts of record k.
+fn record_rows(
+    row: Row,
     step: Step,
     count: usize,
     forms: &[u64],
@@ -105,37 +66,38 @@ fn past_record(
     scratch: usize,
     held: usize,
 )
-    requires { ⌜ Fair step × (k ≤ 64) × (step .first + count ≤ scratch) × (scratch + held ≤ 64) ⌝ }
-    ensures { λ _. ⌜ PutsPast step count (now (forms .entry)) k (now (area .entry)) scratch held
-        (now (area .exit)) ⌝ }
+    requires { ⌜ Fair step × Apart step count scratch held ⌝ }
+    ensures { λ _. ⌜ Puts row step count (now (forms .entry)) k (now (area .entry)) scratch held (now (area .exit)) ⌝ }
 {
+    let own = own_at(row, scratch);
     for n in 0..count {
         let mut turn = step;
         turn.shift = n;
-        let row = past_row(turn, forms, k, area, scratch, held);
-        store(area, step.first + n, row);
+        let made = step_row(row, turn, forms, k, area, scratch, held);
+        store(area, own + step.first + n, made);
     }
 }
 
-// The past rows of the record here. The scratch has the count derived rows of the record before; none at the first.
-pub(crate) fn past_all(
+// The rows of the record here. The area holds so many of the other rows; none at the first record.
+pub(crate) fn rule_rows(
+    row: Row,
     list: &[u8],
     plan: Plan,
     here: Moment,
-    before: Neighbour,
-    count: usize,
+    near: Neighbour,
+    held: usize,
     forms: &[u64],
     area: &mut [u64],
 )
     requires { ⌜ Sound (now list) plan × HoldsForms (now list) plan (now forms)
-        × (length (now area) ≡ wordsFor (plan .places)) × (count ≤ 12) ⌝ }
-    ensures { λ _. ⌜ PastWith (now (list .entry)) plan here before count (now (area .entry)) (now (area .exit)) ⌝ }
+        × (length (now area) ≡ wordsFor (plan .places)) × (held ≤ plan .m) ⌝ }
+    ensures { λ _. ⌜ Walked row (now (list .entry)) plan here near held (now (area .entry)) (now (area .exit)) ⌝ }
 {
     let mut first = 0;
     for k in 0..plan.records {
-        let step = step_at(list, k, first, plan.m, here, before);
-        let shifts = count_at(list, k);
-        past_record(step, shifts, forms, k, area, plan.places + 1, count);
-        first += shifts;
+        let step = step_at(list, k, first, plan.m, here, near);
+        let count = count_at(list, k);
+        record_rows(row, step, count, forms, k, area, plan.places + 1, held);
+        first += count;
     }
 }

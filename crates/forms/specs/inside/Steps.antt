@@ -71,10 +71,6 @@ abbrev pub PutTerms : List ℕ → List ℕ → ℕ → ℕ → List ℕ → Typ
 PutTerms row ts p k r =
     (σ : ℕ → Form most) → Tables ts p σ → r ≡ pack most (truth most (putIn p most (ofTerms p (bitAt row) k) σ))
 
--- r is the row of form j of the count rows of the area from base on
-abbrev pub RowOf : List ℕ → ℕ → ℕ → ℕ → List ℕ → Type 0
-RowOf ws base count j r = (m : ℕ) (rows : List (Form m)) → Holds m ws base count rows → r ≡ pack m (formIn m rows j)
-
 -- the forms whose numbers are bits of the mask, and false for the others
 unfoldable pub onlyNamed : ℕ → (ℕ → Form most) → ℕ → Form most
 onlyNamed named σ j = cond (bit named j) (σ j) (constant most false)

@@ -7,11 +7,13 @@ use Rattle.forms.specs.Form.{Form, or}
 use Rattle.forms.specs.Words.{pack}
 use Rattle.forms.specs.Area.{formIn, Holds}
 use Rattle.meaning.specs.Interval as interval
-use Rattle.meaning.specs.Rule.{Entry}
+use Rattle.meaning.specs.Rule.{Node, Entry}
 use Rattle.meaning.specs.Rewriting.{put, onlyIf, formOf, rowTo, nextRow, untilLater, derivedRow}
 use Rattle.meaning.specs.Rewriting.{previousRow, sinceEarlier, pastRow}
 use Rattle.meaning.specs.Rewriting as rewriting
 use Rattle.rewriting.specs.Decode.{intervalOf, nodeFor}
+use Rattle.rewriting.specs.declared.row.Row.{Row}
+use Rattle.rewriting.specs.declared.row.Row.the-variants.{Derived, Past}
 use Rattle.rewriting.specs.declared.step.Record.{Record}
 use Rattle.rewriting.specs.declared.step.Step.{Step}
 use Rattle.rewriting.specs.declared.step.Neighbour.{Neighbour}
@@ -29,11 +31,7 @@ unfoldable pub Near : Shift → Type 0
 Near Gone = Unit {0}
 Near (To n) = n < 256
 
--- the answer is row j of the forms that the area holds
-abbrev pub OfRow : List ℕ → ℕ → ℕ → ℕ → List ℕ → Type 0
-OfRow ws base count j r =
-    (m : ℕ) (rows : List (Form m)) → Holds m ws base count rows → r ≡ pack m (formIn m rows j)
-
+-- the answer is row j of the forms that the area holds, if the test passes
 abbrev pub OnlyRow : Bool → List ℕ → ℕ → ℕ → List ℕ → Type 0
 OnlyRow test ws count j r =
     (m : ℕ) (rows : List (Form m)) → Holds m ws 0 count rows → r ≡ pack m (onlyIf m test (formIn m rows j))
@@ -72,6 +70,51 @@ abbrev pub OfRecord : Record → ℕ → (m : ℕ) → List ℕ → ℕ → List
 OfRecord d first m ws k r =
     (forms : List (Form m)) → Holds m ws 0 k forms → r ≡ pack m (formOf m forms first (nodeFor d))
 
+-- where the rows that are made stand, and where the others do: past rows from 0 on, derived rows in the scratch
+abbrev pub ownAt : Row → (scratch : ℕ) → ℕ
+ownAt Derived scratch = scratch
+ownAt Past scratch = 0
+
+abbrev pub otherAt : Row → (scratch : ℕ) → ℕ
+otherAt Derived scratch = 0
+otherAt Past scratch = scratch
+
+-- the area holds such rows of the records before first, and so many of the others
+pub record Kept (row : Row) (m : ℕ) (ws : List ℕ) (scratch held first : ℕ) (own other : List (Form m)) : Type 0 where
+  pub mine : Holds m ws (ownAt row scratch) first own
+  pub theirs : Holds m ws (otherAt row scratch) held other
+
+-- the row of a record's shift n, from such rows, the others, and the forms of the records before
+unfoldable pub rowBy : Row → (m : ℕ) → (own other forms : List (Form m)) → Entry → rewriting.Neighbour → (first : ℕ)
+    → Node → ℕ → Form m
+rowBy Derived m own other forms e near first d n = derivedRow m other forms own e near first d n
+rowBy Past m own other forms e near first d n = pastRow m forms other own e near first d n
+
+-- with what a step has, of a record in the place of its own
+unfoldable pub madeOf : Row → (step : Step) → (own other forms : List (Form (step .m))) → Node → ℕ → Form (step .m)
+madeOf row step own other forms d n =
+    rowBy row (step .m) own other forms (entryIn step) (neighbourOf (step .neighbour)) (step .first) d n
+
+-- the answer is the step's row
+abbrev pub OfMade : Row → Step → List ℕ → ℕ → List ℕ → (scratch held : ℕ) → List ℕ → Type 0
+OfMade row step fs k ws scratch held r =
+    (own other forms : List (Form (step .m))) → Kept row (step .m) ws scratch held (step .first) own other
+    → Holds (step .m) fs 0 k forms
+    → r ≡ pack (step .m) (madeOf row step own other forms (nodeFor (step .record)) (step .shift))
+
+-- until or since, from right's form and the second part's
+unfoldable pub nowOr : (step : Step) → (right second : Form (step .m)) → (rows : List (Form (step .m))) → Form (step .m)
+nowOr step right second rows =
+    or (step .m)
+    (onlyIf (step .m) (interval.inside (interval.shifted (intervalIn step) (step .shift)) (step .here) (step .here))
+    (put (step .m) right rows))
+    second
+
+abbrev pub NowOr : Step → List ℕ → List ℕ → ℕ → List ℕ → List ℕ → Type 0
+NowOr step right ws base second r =
+    (f g : Form (step .m)) (rows : List (Form (step .m))) → right ≡ pack (step .m) f → second ≡ pack (step .m) g
+    → Holds (step .m) ws base (step .first) rows → r ≡ pack (step .m) (nowOr step f g rows)
+
 -- the answer is next's derived row
 abbrev pub OfNext : Step → List ℕ → ℕ → List ℕ → Type 0
 OfNext step ws k r =
@@ -89,47 +132,16 @@ OfLater step left ws scratch r =
     (forms derived : List (Form (step .m))) → left ≡ pack (step .m) (formIn (step .m) forms (step .record .left))
     → Holds (step .m) ws scratch (step .first) derived → r ≡ pack (step .m) (laterOf step forms derived)
 
--- until's derived row, with left's and right's rows
-unfoldable pub untilOf : (step : Step) → (forms derived : List (Form (step .m))) → Form (step .m)
-untilOf step forms derived =
-    or (step .m)
-    (onlyIf (step .m) (interval.inside (interval.shifted (intervalIn step) (step .shift)) (step .here) (step .here))
-    (put (step .m) (formIn (step .m) forms (step .record .right)) derived))
-    (laterOf step forms derived)
-
-abbrev pub OfUntil : Step → List ℕ → List ℕ → List ℕ → ℕ → List ℕ → Type 0
-OfUntil step left right ws scratch r =
-    (forms derived : List (Form (step .m))) → left ≡ pack (step .m) (formIn (step .m) forms (step .record .left))
-    → right ≡ pack (step .m) (formIn (step .m) forms (step .record .right))
-    → Holds (step .m) ws scratch (step .first) derived → r ≡ pack (step .m) (untilOf step forms derived)
-
--- the derived row
-unfoldable pub derivedOf : (step : Step) → (past forms derived : List (Form (step .m))) → Form (step .m)
-derivedOf step past forms derived =
-    derivedRow (step .m) past forms derived (entryIn step) (neighbourOf (step .neighbour)) (step .first)
-    (nodeFor (step .record)) (step .shift)
-
--- from the past rows, the forms of the k records before, and the derived rows of their parameters
-abbrev pub OfDerived : Step → List ℕ → ℕ → List ℕ → ℕ → List ℕ → Type 0
-OfDerived step fs k ws scratch r =
-    (past forms derived : List (Form (step .m))) → Holds (step .m) ws 0 (step .m) past → Holds (step .m) fs 0 k forms
-    → Holds (step .m) ws scratch (step .first) derived → r ≡ pack (step .m) (derivedOf step past forms derived)
-
 -- previous resolved, with left's row
 unfoldable pub previousOf : (step : Step) → (forms derived past : List (Form (step .m))) → Form (step .m)
 previousOf step forms derived past =
     previousRow (step .m) forms derived past (step .record .left) (intervalIn step) (step .here)
     (neighbourOf (step .neighbour))
 
--- the area holds the derived rows of the log record before, and the past rows of the records before
-pub record Kept (m : ℕ) (ws : List ℕ) (scratch count first : ℕ) (derived past : List (Form m)) : Type 0 where
-  pub behind : Holds m ws scratch count derived
-  pub front : Holds m ws 0 first past
-
 abbrev pub OfPrevious : Step → List ℕ → List ℕ → ℕ → ℕ → List ℕ → Type 0
-OfPrevious step left ws scratch count r =
+OfPrevious step left ws scratch held r =
     (forms derived past : List (Form (step .m))) → left ≡ pack (step .m) (formIn (step .m) forms (step .record .left))
-    → Kept (step .m) ws scratch count (step .first) derived past
+    → Kept Past (step .m) ws scratch held (step .first) past derived
     → r ≡ pack (step .m) (previousOf step forms derived past)
 
 -- since's second part resolved, with left's row
@@ -139,33 +151,7 @@ earlierOf step forms derived past =
     (step .here) (neighbourOf (step .neighbour))
 
 abbrev pub OfEarlier : Step → List ℕ → List ℕ → ℕ → ℕ → List ℕ → Type 0
-OfEarlier step left ws scratch count r =
+OfEarlier step left ws scratch held r =
     (forms derived past : List (Form (step .m))) → left ≡ pack (step .m) (formIn (step .m) forms (step .record .left))
-    → Kept (step .m) ws scratch count (step .first) derived past
+    → Kept Past (step .m) ws scratch held (step .first) past derived
     → r ≡ pack (step .m) (earlierOf step forms derived past)
-
--- since resolved, with left's and right's rows
-unfoldable pub sinceOf : (step : Step) → (forms derived past : List (Form (step .m))) → Form (step .m)
-sinceOf step forms derived past =
-    or (step .m)
-    (onlyIf (step .m) (interval.inside (interval.shifted (intervalIn step) (step .shift)) (step .here) (step .here))
-    (put (step .m) (formIn (step .m) forms (step .record .right)) past))
-    (earlierOf step forms derived past)
-
-abbrev pub OfSince : Step → List ℕ → List ℕ → List ℕ → ℕ → ℕ → List ℕ → Type 0
-OfSince step left right ws scratch count r =
-    (forms derived past : List (Form (step .m))) → left ≡ pack (step .m) (formIn (step .m) forms (step .record .left))
-    → right ≡ pack (step .m) (formIn (step .m) forms (step .record .right))
-    → Kept (step .m) ws scratch count (step .first) derived past
-    → r ≡ pack (step .m) (sinceOf step forms derived past)
-
--- the past row
-unfoldable pub pastOf : (step : Step) → (forms derived past : List (Form (step .m))) → Form (step .m)
-pastOf step forms derived past =
-    pastRow (step .m) forms derived past (entryIn step) (neighbourOf (step .neighbour)) (step .first)
-    (nodeFor (step .record)) (step .shift)
-
-abbrev pub OfPast : Step → List ℕ → ℕ → List ℕ → ℕ → ℕ → List ℕ → Type 0
-OfPast step fs k ws scratch count r =
-    (forms derived past : List (Form (step .m))) → Holds (step .m) fs 0 k forms
-    → Kept (step .m) ws scratch count (step .first) derived past → r ≡ pack (step .m) (pastOf step forms derived past)

@@ -1,15 +1,18 @@
 -- What the loops over a rule's records say.
 use mathlib.Core.Path.{_≡_}
 use mathlib.Core.List.{List}
-use Prim.Native.Nat.{ℕ, _+_}
+use Prim.Native.Nat.{ℕ, _+_, _≤_}
 use Rattle.forms.specs.Form.{Form}
 use Rattle.forms.specs.Words.{pack}
 use Rattle.forms.specs.Area.{putRows, Holds}
-use Rattle.meaning.specs.Rewriting.{derivedRow, derivedRows, pastRow, pastRows}
+use Rattle.meaning.specs.Rule.{Node, Entry}
+use Rattle.meaning.specs.Rewriting.{derivedRows, pastRows}
+use Rattle.meaning.specs.Rewriting as rewriting
 use Rattle.rewriting.specs.Decode.{byteOf, nodeFor, nodeIn}
-use Rattle.rewriting.specs.Known.{pastIn}
 use Rattle.rewriting.specs.Plans.{formRow, ruleFor, entryFor}
-use Rattle.rewriting.specs.inside.Steps.{neighbourOf, entryIn, Kept}
+use Rattle.rewriting.specs.inside.Steps.{neighbourOf, ownAt, otherAt, Kept, madeOf}
+use Rattle.rewriting.specs.declared.row.Row.{Row}
+use Rattle.rewriting.specs.declared.row.Row.the-variants.{Derived, Past}
 use Rattle.rewriting.specs.declared.step.Record.{Record}
 use Rattle.rewriting.specs.declared.step.Step.{Step}
 use Rattle.rewriting.specs.declared.step.Neighbour.{Neighbour}
@@ -35,51 +38,35 @@ pub record Begins (list : List ℕ) (k first m : ℕ) (here : Moment) (near : Ne
   pub node : nodeFor (r .record) ≡ nodeIn list k
   pub kind : r .record .kind ≡ byteOf list k 0
 
--- the derived row of the record's shift n
-unfoldable pub derivedAt : (step : Step) → (past forms derived : List (Form (step .m))) → ℕ → List ℕ
-derivedAt step past forms derived n =
-    pack (step .m)
-    (derivedRow (step .m) past forms derived (entryIn step) (neighbourOf (step .neighbour)) (step .first)
-    (nodeFor (step .record)) n)
+-- the record's own places and the others lie apart, and no sum of them wraps
+pub record Apart (step : Step) (count scratch held : ℕ) : Type 0 where
+  pub before : held ≤ scratch
+  pub behind : step .first + count ≤ scratch
+  pub low : scratch ≤ 64
 
--- the answer is the area with the derived rows of the record's first shifts in its scratch
-abbrev pub PutsDerived : Step → ℕ → List ℕ → ℕ → List ℕ → ℕ → List ℕ → Type 0
-PutsDerived step count fs k ws scratch r =
-    (past forms derived : List (Form (step .m))) → Holds (step .m) ws 0 (step .m) past → Holds (step .m) fs 0 k forms
-    → Holds (step .m) ws scratch (step .first) derived
-    → r ≡ putRows ws (scratch + step .first) count (derivedAt step past forms derived)
+-- the answer is the area with the rows of the record's first shifts
+unfoldable pub madeRow : Row → (step : Step) → (own other forms : List (Form (step .m))) → ℕ → List ℕ
+madeRow row step own other forms n = pack (step .m) (madeOf row step own other forms (nodeFor (step .record)) n)
 
--- the derived rows of a record of the log, in the area's scratch
-abbrev pub derivedFor : (list : List ℕ) (plan : Plan) → Moment → Neighbour → List ℕ → List (Form (plan .m))
-derivedFor list plan here later ws =
-    derivedRows (plan .m) (ruleFor list plan) (pastIn (plan .m) ws) (entryFor here) (neighbourOf later)
-    (plan .records)
+abbrev pub Puts : Row → Step → ℕ → List ℕ → ℕ → List ℕ → (scratch held : ℕ) → List ℕ → Type 0
+Puts row step count fs k ws scratch held r =
+    (own other forms : List (Form (step .m))) → Kept row (step .m) ws scratch held (step .first) own other
+    → Holds (step .m) fs 0 k forms
+    → r ≡ putRows ws (ownAt row scratch + step .first) count (madeRow row step own other forms)
 
-abbrev pub derivedWith : List ℕ → Plan → Moment → Neighbour → List ℕ → List ℕ
-derivedWith list plan here later ws =
-    putRows ws (plan .places + 1) (plan .m) (formRow (plan .m) (derivedFor list plan here later ws))
+-- the rows of a rule's first k records at a record of the log, from the others
+unfoldable pub tableOf : Row → (m : ℕ) → List Node → (other : List (Form m)) → Entry → (near : rewriting.Neighbour)
+    → ℕ → List (Form m)
+tableOf Derived m rule other e near k = derivedRows m rule other e near k
+tableOf Past m rule other e near k = pastRows m rule other e near k
 
--- the past row of the record's shift n
-unfoldable pub pastAt : (step : Step) → (forms derived past : List (Form (step .m))) → ℕ → List ℕ
-pastAt step forms derived past n =
-    pack (step .m)
-    (pastRow (step .m) forms derived past (entryIn step) (neighbourOf (step .neighbour)) (step .first)
-    (nodeFor (step .record)) n)
-
--- the answer is the area with the past rows of the record's first shifts
-abbrev pub PutsPast : Step → ℕ → List ℕ → ℕ → List ℕ → ℕ → ℕ → List ℕ → Type 0
-PutsPast step count fs k ws scratch held r =
-    (forms derived past : List (Form (step .m))) → Holds (step .m) fs 0 k forms
-    → Kept (step .m) ws scratch held (step .first) derived past
-    → r ≡ putRows ws (step .first) count (pastAt step forms derived past)
-
--- the past rows of a record of the log, and the answer that is the area with them
-abbrev pub pastFor : (list : List ℕ) (plan : Plan) → Moment → Neighbour → List (Form (plan .m))
+abbrev pub rowsFor : Row → (list : List ℕ) (plan : Plan) → Moment → Neighbour → (other : List (Form (plan .m)))
     → List (Form (plan .m))
-pastFor list plan here before derived =
-    pastRows (plan .m) (ruleFor list plan) derived (entryFor here) (neighbourOf before) (plan .records)
+rowsFor row list plan here near other =
+    tableOf row (plan .m) (ruleFor list plan) other (entryFor here) (neighbourOf near) (plan .records)
 
-abbrev pub PastWith : List ℕ → Plan → Moment → Neighbour → ℕ → List ℕ → List ℕ → Type 0
-PastWith list plan here before count ws r =
-    (derived : List (Form (plan .m))) → Holds (plan .m) ws (plan .places + 1) count derived
-    → r ≡ putRows ws 0 (plan .m) (formRow (plan .m) (pastFor list plan here before derived))
+-- the answer is the area with the rows of all records
+abbrev pub Walked : Row → List ℕ → Plan → Moment → Neighbour → (held : ℕ) → List ℕ → List ℕ → Type 0
+Walked row list plan here near held ws r =
+    (other : List (Form (plan .m))) → Holds (plan .m) ws (otherAt row (plan .places + 1)) held other
+    → r ≡ putRows ws (ownAt row (plan .places + 1)) (plan .m) (formRow (plan .m) (rowsFor row list plan here near other))

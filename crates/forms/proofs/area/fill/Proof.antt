@@ -95,18 +95,5 @@ returns c =
 pub fill-spec : {M : Type 1} → statement M
 fill-spec =
     tie.close
-    (tie.spec
-    Inv-loop
-    μ-loop
-    edge-requires
-    edge-requires-2
-    loop-holds
-    mul-area
-    array-read-area
-    mul-area-2
-    slice-write-area
-    add-k
-    loop-less
-    loop-again
-    same-length
-    returns)
+    (tie.spec Inv-loop μ-loop edge-requires edge-requires-2 loop-holds mul-area array-read-area mul-area-2
+    slice-write-area add-k loop-less loop-again same-length returns)

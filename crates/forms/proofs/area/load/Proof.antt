@@ -85,17 +85,5 @@ returns c =
 pub load-spec : {M : Type 1} → statement M
 load-spec =
     tie.close
-    (tie.spec
-    Inv-loop
-    μ-loop
-    edge-requires
-    edge-requires-2
-    loop-holds
-    mul-row
-    shared-slice-read-row
-    mul-row-2
-    array-write-row
-    add-k
-    loop-less
-    loop-again
-    returns)
+    (tie.spec Inv-loop μ-loop edge-requires edge-requires-2 loop-holds mul-row shared-slice-read-row mul-row-2
+    array-write-row add-k loop-less loop-again returns)

@@ -52,14 +52,5 @@ returns c m f g few ea eb =
 pub and-spec : {M : Type 1} → statement M
 and-spec =
     tie.close
-    (tie.spec
-    Inv-loop
-    μ-loop
-    next-term-requires
-    loop-holds
-    join-term-requires
-    add-next-term
-    next-term-requires-2
-    loop-less
-    loop-again
-    returns)
+    (tie.spec Inv-loop μ-loop next-term-requires loop-holds join-term-requires add-next-term next-term-requires-2
+    loop-less loop-again returns)

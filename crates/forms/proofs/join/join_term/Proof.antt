@@ -68,18 +68,5 @@ returns c = record {
 pub join-term-spec : {M : Type 1} → statement M
 join-term-spec =
     tie.close
-    (tie.spec
-    Inv-loop
-    μ-loop
-    next-term-requires
-    loop-holds
-    mul-r
-    element-copy-out-r
-    shl-r
-    mul-r-2
-    element-write-r
-    add-next-term
-    next-term-requires-2
-    loop-less
-    loop-again
-    returns)
+    (tie.spec Inv-loop μ-loop next-term-requires loop-holds mul-r element-copy-out-r shl-r mul-r-2 element-write-r
+    add-next-term next-term-requires-2 loop-less loop-again returns)

@@ -39,13 +39,5 @@ returns c m f few e = naming-done m f _ _ _ few e (c .before .loop .inv) (c .loo
 pub names-spec : {M : Type 1} → statement M
 names-spec =
     tie.close
-    (tie.spec
-    Inv-loop
-    μ-loop
-    next-term-requires
-    loop-holds
-    add-next-term
-    next-term-requires-2
-    loop-less
-    loop-again
+    (tie.spec Inv-loop μ-loop next-term-requires loop-holds add-next-term next-term-requires-2 loop-less loop-again
     returns)

@@ -65,17 +65,5 @@ returns c m f g few ea eb =
 pub xor-spec : {M : Type 1} → statement M
 xor-spec =
     tie.close
-    (tie.spec
-    Inv-loop
-    μ-loop
-    loop-holds
-    mul-r
-    array-read-r
-    mul-r-2
-    array-read-r-2
-    mul-r-3
-    array-write-r
-    add-i
-    loop-less
-    loop-again
-    returns)
+    (tie.spec Inv-loop μ-loop loop-holds mul-r array-read-r mul-r-2 array-read-r-2 mul-r-3 array-write-r add-i
+    loop-less loop-again returns)

@@ -64,17 +64,5 @@ returns-3 c =
 pub lone-spec : {M : Type 1} → statement M
 lone-spec =
     tie.close
-    (tie.spec
-    Inv-loop
-    μ-loop
-    next-term-requires
-    add-next-term
-    next-term-requires-2
-    returns
-    loop-holds
-    shl-if2
-    returns-2
-    add-p
-    loop-less
-    loop-again
-    returns-3)
+    (tie.spec Inv-loop μ-loop next-term-requires add-next-term next-term-requires-2 returns loop-holds shl-if2
+    returns-2 add-p loop-less loop-again returns-3)

@@ -78,19 +78,5 @@ returns-2 c = record {
 pub next-term-spec : {M : Type 1} → statement M
 next-term-spec =
     tie.close
-    (tie.spec
-    Inv-loop
-    μ-loop
-    loop-holds
-    mul-left
-    element-copy-out-left
-    shr-left
-    returns
-    add-k
-    mul-k
-    loop-less
-    loop-again
-    add-k-2
-    loop-less-2
-    loop-again-2
-    returns-2)
+    (tie.spec Inv-loop μ-loop loop-holds mul-left element-copy-out-left shr-left returns add-k mul-k loop-less
+    loop-again add-k-2 loop-less-2 loop-again-2 returns-2)

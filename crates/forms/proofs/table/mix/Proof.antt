@@ -73,21 +73,5 @@ returns c =
 pub mix-spec : {M : Type 1} → statement M
 mix-spec =
     tie.close
-    (tie.spec
-    Inv-loop
-    μ-loop
-    loop-holds
-    mul-r
-    array-read-r
-    mul-r-2
-    add-r
-    mul-r-3
-    element-copy-out-r
-    mul-r-4
-    array-read-r-2
-    mul-r-5
-    array-write-r
-    add-i
-    loop-less
-    loop-again
-    returns)
+    (tie.spec Inv-loop μ-loop loop-holds mul-r array-read-r mul-r-2 add-r mul-r-3 element-copy-out-r mul-r-4
+    array-read-r-2 mul-r-5 array-write-r add-i loop-less loop-again returns)

@@ -52,18 +52,5 @@ returns-3 c = pass-kept _ _ _ _ (c .before .if1 .left) (one-shl _ (omega arith))
 pub pass-word-spec : {M : Type 1} → statement M
 pass-word-spec =
     tie.close
-    (tie.spec
-    mul-w
-    element-copy-out-w
-    shl-by
-    mul-result
-    array-read-result
-    shl-result
-    returns
-    shl-by-2
-    div-if2
-    sub-result
-    mul-result-2
-    element-copy-out-result
-    returns-2
-    returns-3)
+    (tie.spec mul-w element-copy-out-w shl-by mul-result array-read-result shl-result returns shl-by-2 div-if2
+    sub-result mul-result-2 element-copy-out-result returns-2 returns-3)

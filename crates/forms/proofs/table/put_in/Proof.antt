@@ -14,8 +14,8 @@ returns c = put-constant _ _ _ _ _ (c .before .next-term .ensures) (c .if1 .take
 lone-requires : tie.Need-lone-requires
 lone-requires c κs = search needs
 
-row-at-requires : tie.Need-row-at-requires
-row-at-requires c κs = search needs
+row-of-requires : tie.Need-row-of-requires
+row-of-requires c κs = search needs
 
 array-read-r : tie.Need-array-read-r
 array-read-r c = search needs
@@ -28,7 +28,7 @@ array-write-r c = search needs
 
 returns-2 : tie.Need-returns-2
 returns-2 c =
-    put-lone _ _ _ _ _ _ (c .before .before .lone .ensures) (c .before .if2 .taken) (c .row-at .ensures)
+    put-lone _ _ _ _ _ _ (c .before .before .lone .ensures) (c .before .if2 .taken) (c .row-of .ensures)
 
 put-by-values-requires : tie.Need-put-by-values-requires
 put-by-values-requires c κs = search needs
@@ -39,14 +39,5 @@ returns-3 c = c .put-by-values .ensures
 pub put-in-spec : {M : Type 1} → statement M
 put-in-spec =
     tie.close
-    (tie.spec
-    next-term-requires
-    returns
-    lone-requires
-    row-at-requires
-    array-read-r
-    array-read-r-2
-    array-write-r
-    returns-2
-    put-by-values-requires
-    returns-3)
+    (tie.spec next-term-requires returns lone-requires row-of-requires array-read-r array-read-r-2 array-write-r
+    returns-2 put-by-values-requires returns-3)

@@ -11,15 +11,15 @@ shr-if1 c = search needs
 returns : tie.Need-returns
 returns c = table-none _ _ _ _ _ (c .if1 .taken)
 
-row-at-requires : tie.Need-row-at-requires
-row-at-requires c κs = search needs
+row-of-requires : tie.Need-row-of-requires
+row-of-requires c κs = search needs
 
 truth-of-requires : tie.Need-truth-of-requires
 truth-of-requires c κs = search needs
 
 returns-2 : tie.Need-returns-2
 returns-2 c =
-    table-here _ _ _ _ _ _ _ (c .before .before .if1 .left) (c .before .row-at .ensures) (c .truth-of .ensures)
+    table-here _ _ _ _ _ _ _ (c .before .before .if1 .left) (c .before .row-of .ensures) (c .truth-of .ensures)
 
 pub table-at-spec : {M : Type 1} → statement M
-table-at-spec = tie.close (tie.spec shr-if1 returns row-at-requires truth-of-requires returns-2)
+table-at-spec = tie.close (tie.spec shr-if1 returns row-of-requires truth-of-requires returns-2)

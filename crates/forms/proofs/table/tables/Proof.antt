@@ -60,14 +60,5 @@ returns c rows h j l = c .before .loop .inv .2 rows h j (omega arith)
 pub tables-spec : {M : Type 1} → statement M
 tables-spec =
     tie.close
-    (tie.spec
-    Inv-loop
-    μ-loop
-    loop-holds
-    table-at-requires
-    slice-aggregate-store
-    store-requires
-    add-j
-    loop-less
-    loop-again
-    returns)
+    (tie.spec Inv-loop μ-loop loop-holds table-at-requires slice-aggregate-store store-requires add-j loop-less
+    loop-again returns)

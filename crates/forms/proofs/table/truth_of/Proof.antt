@@ -50,14 +50,5 @@ returns-2 c f e =
 pub truth-of-spec : {M : Type 1} → statement M
 truth-of-spec =
     tie.close
-    (tie.spec
-    Inv-loop
-    μ-loop
-    next-term-requires
-    returns
-    loop-holds
-    pass-requires
-    add-p
-    loop-less
-    loop-again
+    (tie.spec Inv-loop μ-loop next-term-requires returns loop-holds pass-requires add-p loop-less loop-again
     returns-2)

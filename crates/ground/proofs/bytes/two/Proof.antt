@@ -39,13 +39,4 @@ returns-2 c = omega arith
 pub two-spec : {M : Type 1} → statement M
 two-spec =
     tie.close
-    (tie.spec
-    returns
-    byte-requires
-    cast-low
-    add-byte
-    byte-requires-2
-    cast-high
-    mul-result
-    add-result
-    returns-2)
+    (tie.spec returns byte-requires cast-low add-byte byte-requires-2 cast-high mul-result add-result returns-2)

@@ -45,15 +45,5 @@ returns-3 c = sym (zeros-all _ _ (λ k h l. c .before .loop .inv .1 k (omega ari
 pub zeros-from-spec : {M : Type 1} → statement M
 zeros-from-spec =
     tie.close
-    (tie.spec
-    Inv-loop
-    μ-loop
-    returns
-    sub-last
-    loop-holds
-    shared-slice-read-if2
-    returns-2
-    add-i
-    loop-less
-    loop-again
+    (tie.spec Inv-loop μ-loop returns sub-last loop-holds shared-slice-read-if2 returns-2 add-i loop-less loop-again
     returns-3)

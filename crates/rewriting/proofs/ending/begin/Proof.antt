@@ -41,13 +41,5 @@ returns c =
 pub begin-spec : {M : Type 1} → statement M
 begin-spec =
     tie.close
-    (tie.spec
-    clear-requires
-    sub-row-of
-    row-of-requires
-    store-requires
-    add-clear
-    add-clear-2
-    clear-requires-2
-    same-length
-    returns)
+    (tie.spec clear-requires sub-row-of row-of-requires store-requires add-clear add-clear-2 clear-requires-2
+    same-length returns)

@@ -35,11 +35,4 @@ returns c =
 pub close-spec : {M : Type 1} → statement M
 close-spec =
     tie.close
-    (tie.spec
-    add-scratch
-    value-if-last-requires
-    constant-requires
-    store-requires
-    clear-requires
-    same-length
-    returns)
+    (tie.spec add-scratch value-if-last-requires constant-requires store-requires clear-requires same-length returns)

@@ -52,14 +52,5 @@ returns c =
 pub end-values-spec : {M : Type 1} → statement M
 end-values-spec =
     tie.close
-    (tie.spec
-    Inv-loop
-    μ-loop
-    loop-holds
-    end-value-requires
-    add-with-value
-    with-value-requires
-    add-n
-    loop-less
-    loop-again
-    returns)
+    (tie.spec Inv-loop μ-loop loop-holds end-value-requires add-with-value with-value-requires add-n loop-less
+    loop-again returns)

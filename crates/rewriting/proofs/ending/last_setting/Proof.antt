@@ -42,8 +42,8 @@ end-values-requires c κs =
     let here = c .before .before .before .loop in
     let ready =
     step-ready (a .list .now) (a .plan) sound (here .k) (here .first) _ (c .before .before .loop-test .taken)
-    (here .inv .1) (c .count-at .ensures .0) (a .last) None _ (c .before .step-at .ensures) in
-    (ready .0, search needs, omega (arith, ready .2, sound .room))
+    (here .inv .1) (c .count-at .ensures .0) (a .last) None _ (c .before .step-at .ensures) 0 (omega arith) in
+    (ready .0, omega (arith, ready .1 .behind, sound .room))
 
 add-first : tie.Need-add-first Inv-loop μ-loop
 add-first c =
@@ -84,15 +84,5 @@ returns c =
 pub last-setting-spec : {M : Type 1} → statement M
 last-setting-spec =
     tie.close
-    (tie.spec
-    Inv-loop
-    μ-loop
-    loop-holds
-    step-at-requires
-    count-at-requires
-    end-values-requires
-    add-first
-    add-k
-    loop-less
-    loop-again
-    returns)
+    (tie.spec Inv-loop μ-loop loop-holds step-at-requires count-at-requires end-values-requires add-first add-k
+    loop-less loop-again returns)

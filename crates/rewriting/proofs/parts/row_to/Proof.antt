@@ -16,7 +16,7 @@ enum-known-shift c = search needs
 
 add-row-of : tie.Need-add-row-of
 add-row-of c =
-    let near = near-to _ _ (c .before .shift .given .1) (c .before .before .before .before .pre .2) in
+    let near = near-to _ _ (c .before .shift .given .1) (c .before .before .before .before .pre .1) in
     search needs
 
 row-of-requires : tie.Need-row-of-requires

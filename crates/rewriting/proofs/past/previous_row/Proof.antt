@@ -37,8 +37,8 @@ returns-2 c forms derived past e h =
     let few = c .before .before .before .before .before .before .before .pre .few in
     previous-at step _ forms derived past _ _ (c .before .before .before .before .neighbour .given .1)
     (c .before .before .inside .ensures)
-    (c .only-put .ensures (step .m) _ past few (c .before .put-in .ensures (step .m) _ derived few e (h .behind))
-    (h .front))
+    (c .only-put .ensures (step .m) _ past few (c .before .put-in .ensures (step .m) _ derived few e (h .theirs))
+    (h .mine))
 
 pub previous-row-spec : {M : Type 1} → statement M
 previous-row-spec =

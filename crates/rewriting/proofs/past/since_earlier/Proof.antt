@@ -40,13 +40,13 @@ returns-2 : tie.Need-returns-2
 unfolding intervalIn put
 returns-2 c forms derived past e h =
     let step = c .before .before .before .before .before .before .before .before .before .args .step in
-    let few = c .before .before .before .before .before .before .before .before .before .pre .0 .few in
+    let few = c .before .before .before .before .before .before .before .before .before .pre .few in
     earlier-at step _ forms derived past _ _
     (c .before .before .before .before .before .before .neighbour .given .1)
     (c .before .before .before .before .moved .ensures .0)
-    (c .and .ensures (step .m) _ _ few (c .before .put-in2 .ensures (step .m) _ past few e (h .front))
+    (c .and .ensures (step .m) _ _ few (c .before .put-in2 .ensures (step .m) _ past few e (h .mine))
     (c .before .before .put-in .ensures (step .m) _ past few
-    (c .before .before .before .row-to .ensures (step .m) derived (h .behind)) (h .front)))
+    (c .before .before .before .row-to .ensures (step .m) derived (h .theirs)) (h .mine)))
 
 pub since-earlier-spec : {M : Type 1} → statement M
 since-earlier-spec =

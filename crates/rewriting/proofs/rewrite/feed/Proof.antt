@@ -1,7 +1,6 @@
 -- `rewrite::feed` meets its contract: derived rows, the remainder, past rows, and the scratch cleared.
 -- Assumes nothing.
 use borrow.Author.Needs.{needs}
-use Rattle.rewriting.specs.inside.Steps.{neighbourOf}
 use Rattle.rewriting.proofs.Rewritten.{feed-done}
 use Rattle.rewriting.proofs.rewrite.feed.Statement.{statement}
 use Rattle.rewriting.proofs.rewrite.feed.Tie as tie
@@ -9,8 +8,8 @@ use Rattle.rewriting.proofs.rewrite.feed.Tie as tie
 add-derived : tie.Need-add-derived
 add-derived c = search needs
 
-derive-all-requires : tie.Need-derive-all-requires
-derive-all-requires c κs = c .before .before .before .before .before .pre
+rule-rows-requires : tie.Need-rule-rows-requires
+rule-rows-requires c κs = search needs
 
 load-requires : tie.Need-load-requires
 load-requires c κs = search needs
@@ -21,8 +20,8 @@ put-in-requires c κs = search needs
 store-requires : tie.Need-store-requires
 store-requires c κs = search needs
 
-past-all-requires : tie.Need-past-all-requires
-past-all-requires c κs = search needs
+rule-rows-requires-2 : tie.Need-rule-rows-requires-2
+rule-rows-requires-2 c κs = search needs
 
 clear-requires : tie.Need-clear-requires
 clear-requires c κs = search needs
@@ -31,7 +30,6 @@ same-length : tie.Need-same-length
 same-length c = search needs
 
 returns : tie.Need-returns
-unfolding neighbourOf
 returns c =
     let c₆ = c .before .before .before .before .before .before in
     let c₁₀ = c₆ .before .before .before .before in
@@ -40,19 +38,11 @@ returns c =
     let c₁₈ = c₁₄ .before .before .before .before in
     let c₂₄ = c₁₈ .before .before .before .before .before .before in
     let start = c₂₄ in
-    feed-done _ _ (start .pre .0) _ (start .pre .2) _ _ _ _ _ _ _ _ (c₁₈ .derive-all .ensures) (c₁₄ .load .ensures)
-    (c₁₂ .put-in .ensures) (c₁₀ .store .ensures) (c₆ .past-all .ensures) (c .before .before .clear .ensures)
+    feed-done _ _ (start .pre .0) _ (start .pre .2) _ _ _ _ _ _ _ _ (c₁₈ .rule-rows .ensures) (c₁₄ .load .ensures)
+    (c₁₂ .put-in .ensures) (c₁₀ .store .ensures) (c₆ .rule-rows2 .ensures) (c .before .before .clear .ensures)
 
 pub feed-spec : {M : Type 1} → statement M
 feed-spec =
     tie.close
-    (tie.spec
-    add-derived
-    derive-all-requires
-    load-requires
-    put-in-requires
-    store-requires
-    past-all-requires
-    clear-requires
-    same-length
-    returns)
+    (tie.spec add-derived rule-rows-requires load-requires put-in-requires store-requires rule-rows-requires-2
+    clear-requires same-length returns)

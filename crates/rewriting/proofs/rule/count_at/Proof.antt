@@ -41,11 +41,4 @@ returns-3 c =
 pub count-at-spec : {M : Type 1} → statement M
 count-at-spec =
     tie.close
-    (tie.spec
-    byte-of-requires
-    byte-of-requires-2
-    byte-of-requires-3
-    shifts-of-requires
-    returns
-    returns-2
-    returns-3)
+    (tie.spec byte-of-requires byte-of-requires-2 byte-of-requires-3 shifts-of-requires returns returns-2 returns-3)

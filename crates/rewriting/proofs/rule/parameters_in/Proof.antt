@@ -53,14 +53,4 @@ returns c =
 
 pub parameters-in-spec : {M : Type 1} → statement M
 parameters-in-spec =
-    tie.close
-    (tie.spec
-    Inv-loop
-    μ-loop
-    loop-holds
-    count-at-requires
-    add-sum
-    add-k
-    loop-less
-    loop-again
-    returns)
+    tie.close (tie.spec Inv-loop μ-loop loop-holds count-at-requires add-sum add-k loop-less loop-again returns)

@@ -27,10 +27,4 @@ returns c = cc
 pub record-at-spec : {M : Type 1} → statement M
 record-at-spec =
     tie.close
-    (tie.spec
-    byte-of-requires
-    byte-of-requires-2
-    byte-of-requires-3
-    byte-of-requires-4
-    byte-of-requires-5
-    returns)
+    (tie.spec byte-of-requires byte-of-requires-2 byte-of-requires-3 byte-of-requires-4 byte-of-requires-5 returns)

@@ -82,17 +82,5 @@ returns c =
 pub forms-of-spec : {M : Type 1} → statement M
 forms-of-spec =
     tie.close
-    (tie.spec
-    Inv-loop
-    μ-loop
-    loop-holds
-    record-at-requires
-    form-row-requires
-    store-requires
-    count-at-requires
-    add-first
-    add-k
-    loop-less
-    loop-again
-    same-length
-    returns)
+    (tie.spec Inv-loop μ-loop loop-holds record-at-requires form-row-requires store-requires count-at-requires
+    add-first add-k loop-less loop-again same-length returns)
