@@ -71,6 +71,12 @@ fn running(rule: &[u8], area: &mut [u64]) -> Watcher {
     next
 }
 
+// A watcher of rule A that was fed that record. The rule has five parameters: two signals, and an until's three shifts.
+fn running_a(area: &mut [u64]) -> Watcher {
+    let rule = rule_a(0, 2);
+    running(&rule, area)
+}
+
 // How many refuse by the number: feeding a record, and closing.
 fn refused_by(wanted: usize, watcher: Watcher, area: &mut [u64]) -> u64
     ensures { λ r. ⌜ r ≤ 2 ⌝ }
@@ -123,12 +129,11 @@ fn word_refused(watcher: Watcher, place: usize, new: u64, area: &mut [u64]) -> u
     refused_by(12, watcher, area)
 }
 
-// The same of rule A, fed one record. It has five parameters: two signals, and an until with three shifts.
+// The same of rule A, fed one record.
 fn row_refused(place: usize, new: u64, area: &mut [u64]) -> u64
     ensures { λ r. ⌜ r ≤ 2 ⌝ }
 {
-    let rule = rule_a(0, 2);
-    let watcher = running(&rule, area);
+    let watcher = running_a(area);
     word_refused(watcher, place, new, area)
 }
 
@@ -237,10 +242,9 @@ fn state_refusals(watcher: Watcher, area: &mut [u64]) -> u64 {
 
 // Counts refusals 7, 10 and 12 of a watcher that was fed a record.
 pub(crate) fn refusals(area: &mut [u64], tally: &mut [u64]) {
-    let rule = rule_a(0, 2);
-    let watcher = running(&rule, area);
+    let watcher = running_a(area);
     add(tally, b'7', area_refusals(watcher));
     add(tally, b'c', state_refusals(watcher, area));
-    let again = running(&rule, area);
+    let again = running_a(area);
     add(tally, b'a', closed_refusals(again, area));
 }

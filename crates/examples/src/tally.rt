@@ -1,4 +1,5 @@
 // How often each answer came: words, closings, horizons and refusals, and how many answers were not the wanted ones.
+use crate::answers::letters::number_letter;
 use crate::answers::print::number;
 use crate::answers::print::text;
 use ground::bytes::byte;
@@ -115,30 +116,23 @@ fn word_lines(tally: &[u64]) {
     line(b"without a horizon", tally, NO_HORIZON);
 }
 
-// Writes the lines of the refusals that only start gives.
-fn start_lines(tally: &[u64]) {
-    line(b"refused 1", tally, b'1' as usize);
-    line(b"refused 2", tally, b'2' as usize);
-    line(b"refused 3", tally, b'3' as usize);
-    line(b"refused 4", tally, b'4' as usize);
-    line(b"refused 5", tally, b'5' as usize);
-    line(b"refused 6", tally, b'6' as usize);
+// Writes the line of a refusal by its number.
+fn refusal_line(tally: &[u64], refusal: usize) {
+    text(b"refused ");
+    number(refusal as u64);
+    line(b"", tally, number_letter(refusal) as usize);
 }
 
-// Writes the lines of the other refusals.
-fn call_lines(tally: &[u64]) {
-    line(b"refused 7", tally, b'7' as usize);
-    line(b"refused 8", tally, b'8' as usize);
-    line(b"refused 9", tally, b'9' as usize);
-    line(b"refused 10", tally, b'a' as usize);
-    line(b"refused 11", tally, b'b' as usize);
-    line(b"refused 12", tally, b'c' as usize);
+// Writes the lines of the refusals 1 to 12.
+fn refusal_lines(tally: &[u64]) {
+    for refusal in 1..13usize {
+        refusal_line(tally, refusal);
+    }
 }
 
 // Writes the whole tally.
 pub(crate) fn tally_lines(tally: &[u64]) {
     word_lines(tally);
-    start_lines(tally);
-    call_lines(tally);
+    refusal_lines(tally);
     line(b"differences", tally, DIFFERENCES);
 }

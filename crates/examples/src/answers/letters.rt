@@ -5,15 +5,19 @@ use watcher::state::Refusal;
 use watcher::state::Verdict;
 use watcher::state::Word;
 
-// The digit of a refusal's number; a question mark where it has none.
-pub(crate) fn refusal_letter(refusal: Refusal) -> u8 {
+// The digit of a number; a question mark where it has none.
+pub(crate) fn number_letter(number: usize) -> u8 {
     let digits = b"0123456789abcdef";
-    let number = refusal.number();
     if number < digits.len() {
         digits[number]
     } else {
         b'?'
     }
+}
+
+// The digit of a refusal's number.
+pub(crate) fn refusal_letter(refusal: Refusal) -> u8 {
+    number_letter(refusal.number())
 }
 
 // A word's letter.
