@@ -3,8 +3,20 @@
  * Every call answers for whatever it is handed; none halts. A list is a pointer and its length, and an empty one may
  * have any pointer. Lent lists that a call writes to must not overlap any other list of that call.
  *
- * A call that is refused answers the number of its refusal and leaves state, work area and codes as they were. Only a
- * refused start writes a state of zeros, unless by 91; every further call on that state is refused. */
+ * A call that is refused answers the number of its refusal and leaves state, work area and codes as they were, but for
+ * two: a refused start writes a state of zeros, unless by 91, and every further call on that state is refused; a run
+ * that answers 11 has written work area and codes.
+ *
+ * Refusal 12 goes by the shape of state and work area, not by where they come from. What passes is a rule and a list
+ * that start accepts, with zeros behind them, and past rows and a remainder over the rule's parameters, with zeros in
+ * unused rows. By the phase, moreover:
+ *   fresh    all past rows are zero. The remainder may be another one than the rule's; the first record leaves it, so
+ *            that words and verdict are then not those of the rule.
+ *   running  the signals are ones that the list has, a signal's row is its constant, and that of a next or until is
+ *            itself. The row of a previous or since may be any that names only next and until parameters of earlier
+ *            rule records. Time and remainder may be any.
+ *   closed   nothing more. The verdict may be either, and the call answers 10.
+ * The scratch is not looked at, nor the bytes of the state that its phase does not use. */
 #ifndef HUNCHCOLD_H
 #define HUNCHCOLD_H
 
@@ -38,7 +50,7 @@ extern "C" {
 #define HUNCHCOLD_LOG_TIME 9         /* time is lower than the last accepted record's */
 #define HUNCHCOLD_ALREADY_CLOSED 10  /* the watcher is closed */
 #define HUNCHCOLD_NOTHING_FED 11     /* closing with no accepted record */
-#define HUNCHCOLD_BROKEN_STATE 12    /* state or work area are not ones that a watcher hands back */
+#define HUNCHCOLD_BROKEN_STATE 12    /* state or work area have not the shape of a watcher's */
 #define HUNCHCOLD_CODES_LENGTH 90    /* codes are not one for each 16 bytes of the log and one for a short rest */
 #define HUNCHCOLD_STATE_LENGTH 91    /* state is not 280 bytes */
 
@@ -46,8 +58,9 @@ extern "C" {
 #define HUNCHCOLD_FOREVER UINT64_MAX
 
 /* Runs a whole log: starts, feeds each 16 bytes and a short last piece, and closes. codes[i] is the word or refusal
- * of piece i. Answers the verdict, or 11 where no piece was accepted; area and codes are then written all the same.
- * Tests 90, then 1 to 7, as start does; where one of these is answered, area and codes stay as they were. */
+ * of piece i. Answers the verdict, or 11 where no piece was accepted; area and codes are then written all the same, the
+ * area as start leaves it and each code 8. Tests 90, then 1 to 7, as start does; where one of these is answered, area
+ * and codes stay as they were. */
 uint8_t hunchcold_run(const uint8_t *rule, size_t rule_bytes, const uint8_t *signals, size_t signals_bytes,
                       const uint8_t *log, size_t log_bytes, uint64_t *area, size_t area_words, uint8_t *codes,
                       size_t codes_bytes);

@@ -45,7 +45,9 @@ extern "C" {
     fn hunchcold_horizon(state: *const u8, state_bytes: usize) -> u64;
 }
 
-/// Runs a whole log, with a code for each piece; answers the code of closing, or start's refusal.
+/// Runs a whole log, with a code for each piece; answers the code of closing, or start's refusal. Where no piece is
+/// accepted it answers 11, and area and codes are written all the same: the area is that after start, each code is 8.
+/// With 90 and 1 to 7 both stay as they were.
 pub fn run(rule: &[u8], signals: &[u8], log: &[u8], area: &mut [u64], codes: &mut [u8]) -> u8 {
     unsafe {
         hunchcold_run(
@@ -63,7 +65,7 @@ pub fn run(rule: &[u8], signals: &[u8], log: &[u8], area: &mut [u64], codes: &mu
     }
 }
 
-/// Starts a watcher: 0, or a refusal.
+/// Starts a watcher: 0, or a refusal, which writes zeros into the state unless it is 91.
 pub fn start(rule: &[u8], signals: &[u8], state: &mut [u8], area: &mut [u64]) -> u8 {
     unsafe {
         hunchcold_start(

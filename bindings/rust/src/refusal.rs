@@ -3,7 +3,9 @@
 use std::error::Error;
 use std::fmt;
 
-/// Why a call was refused. A refused call changes nothing.
+/// Why a call was refused. A refused call changes nothing, but for [`raw::start`](crate::raw::start), which then writes
+/// zeros into the state unless by 91, and [`raw::run`](crate::raw::run), which has written area and codes where it
+/// answers 11.
 #[derive(Clone, Copy, Debug, PartialEq, Eq, Hash)]
 pub enum Refusal {
     /// 1: the rule's length is not a multiple of 8, or not 1 to 16 records.
@@ -28,8 +30,9 @@ pub enum Refusal {
     AlreadyClosed,
     /// 11: closing with no accepted record.
     NothingFed,
-    /// 12: the state or the work area is not one that a watcher hands back: its rule or signal list is one that start
-    /// would refuse, or a past row or the remainder holds what no accepted call leaves there.
+    /// 12: the state or the work area has not the shape of one that a watcher hands back: its rule or signal list is
+    /// one that start would refuse, or a past row or the remainder is of a shape that no accepted call leaves there.
+    /// [`Watcher::from_parts`](crate::Watcher::from_parts) tells what passes.
     BrokenState,
     /// 90: the list of codes is not one for each 16 bytes of the log and one for a short last piece.
     CodesLength,
@@ -96,7 +99,7 @@ impl Refusal {
             Refusal::LogTime => "time is lower than the last accepted record's",
             Refusal::AlreadyClosed => "the watcher is closed",
             Refusal::NothingFed => "closing with no accepted record",
-            Refusal::BrokenState => "state or work area are not ones that a watcher hands back",
+            Refusal::BrokenState => "state or work area have not the shape of a watcher's",
             Refusal::CodesLength => "codes are not one for each 16 bytes of the log and one for a short last piece",
             Refusal::StateLength => "state is not 280 bytes",
             Refusal::Unknown(_) => "the library's code is not one that this crate knows",

@@ -27,8 +27,8 @@ pub struct Run {
 /// ```
 ///
 /// # Errors
-/// Refusals 1 to 6 of start, tested in that order. A refused record or a refused closing is no error here: each stands
-/// in its place in [`Run`].
+/// Refusals 1 to 6 of start, tested in that order. A refused record or a closing refused with 11 is no error here: each
+/// stands in its place in [`Run`].
 pub fn run(rule: &[u8], signals: &[u8], log: &[u8]) -> Result<Run, Refusal> {
     let mut area = vec![0; AREA_WORDS];
     let mut codes = vec![0; log.len().div_ceil(LOG_RECORD_BYTES)];

@@ -90,8 +90,20 @@ impl Watcher {
         (self.state, self.area)
     }
 
-    /// A watcher with this state and this work area. Any are taken; each call judges them, and refuses those that no
-    /// watcher hands back with 91, 7 or 12.
+    /// A watcher with this state and this work area. Any are taken. Each call judges them: 91 and 7 are given by their
+    /// lengths, and 12 by their shape, not by where they come from.
+    ///
+    /// What passes 12 is a rule and a list that start accepts, with zeros behind them, and past rows and a remainder
+    /// over the rule's parameters, with zeros in unused rows. By the phase, moreover:
+    ///
+    /// - fresh: all past rows are zero. The remainder may be another one than the rule's; the first record leaves it,
+    ///   so that words and verdict are then not those of the rule.
+    /// - running: the signals are ones that the list has, a signal's row is its constant, and that of a next or until
+    ///   is itself. The row of a previous or since may be any that names only next and until parameters of earlier rule
+    ///   records. Time and remainder may be any.
+    /// - closed: nothing more. The verdict may be either, and each call answers 10.
+    ///
+    /// The scratch is not looked at, nor the bytes of the state that its phase does not use.
     pub fn from_parts(state: Vec<u8>, area: Vec<u64>) -> Watcher {
         Watcher { state, area }
     }

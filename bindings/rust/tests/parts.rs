@@ -3,7 +3,7 @@
 mod house;
 
 use house::{record, watcher_a, RULE_A, SIGNALS};
-use hunchcold::{Refusal, Verdict, Watcher, Word, AREA_WORDS, STATE_BYTES};
+use hunchcold::{run, Refusal, Verdict, Watcher, Word, AREA_WORDS, STATE_BYTES};
 
 /// A watcher of rule A after one record, at minute 258, with signal 0.
 fn fed() -> Watcher {
@@ -131,6 +131,29 @@ fn damaged_area() {
     let mut watcher = Watcher::from_parts(state, same);
     assert_eq!(watcher.feed(&record(259, 0, 1)), Ok(Word::Pending));
     assert!(watcher.parts().1[13 * 64..].iter().all(|&word| word == 0));
+}
+
+/// A fresh state with another remainder passes 12, and the first record leaves it.
+#[test]
+fn other_remainder() {
+    let (state, mut area) = watcher_a().into_parts();
+    area[12 * 64] = 1;
+    let mut watcher = Watcher::from_parts(state, area);
+    assert_eq!(watcher.feed(&record(0, 0, 0)), Ok(Word::Kept));
+    assert_eq!(watcher.close(), Ok(Verdict::Kept));
+    let own = run(&RULE_A, &SIGNALS, &record(0, 0, 0)).expect("rule A is accepted");
+    assert_eq!(own.end, Ok(Verdict::Broken));
+}
+
+/// A closed state passes with the other verdict and any remainder in range, and is refused with 10.
+#[test]
+fn other_verdict() {
+    let mut watcher = fed();
+    assert_eq!(watcher.close(), Ok(Verdict::Broken));
+    let (mut state, mut area) = watcher.into_parts();
+    state[278] = 2;
+    area[12 * 64] = 6;
+    refused(Watcher::from_parts(state, area), Refusal::AlreadyClosed);
 }
 
 /// A watcher of zeros refuses each call and has no horizon.

@@ -85,6 +85,17 @@ fn whole_logs() {
     assert_eq!(empty.end, Err(Refusal::NothingFed));
 }
 
+/// A run without an accepted record has written area and codes: the area is that after start, each code is 8.
+#[test]
+fn nothing_accepted() {
+    let mut area = vec![5; AREA_WORDS];
+    let mut codes = [5; 2];
+    let log = [255; 20];
+    assert_eq!(raw::run(&RULE_A, &SIGNALS, &log, &mut area, &mut codes), 11);
+    assert_eq!(codes, [8; 2]);
+    assert_eq!(area, watcher_a().parts().1);
+}
+
 /// The lists that the exports write to must have their lengths: 90 and 91 come before all else, 7 after 1 to 6.
 #[test]
 fn lengths() {

@@ -1,12 +1,31 @@
-// Runs the examples of document 01 and its listing through the watcher.
+// Runs the watcher on document 01's examples and its listing, on areas and states that it must refuse, and on cases by
+// chance beside a second evaluator, and counts the answers.
+mod answers;
+mod bytes;
+mod cases;
+mod chance;
+mod given;
+mod judge;
 mod listed;
 mod listing;
+mod made;
+mod refused;
+mod tally;
 
+use crate::cases::compare::random_cases;
 use crate::listed::examples;
 use crate::listing::listing;
+use crate::refused::refusals;
+use crate::tally::PLACES;
+use crate::tally::tally_lines;
+use watcher::state::Watcher;
 
 fn main() {
-    let mut area = [0u64; 1664];
+    let mut area = [0u64; Watcher::WORDS];
+    let mut tally = [0u64; PLACES];
     examples(&mut area);
     listing(&mut area);
+    refusals(&mut area, &mut tally);
+    random_cases(5000, &mut area, &mut tally);
+    tally_lines(&tally);
 }

@@ -1,0 +1,60 @@
+// One log through the watcher, as letters: the digit of a refused start alone, or a letter for each 16 bytes of the
+// log, a point, and the letter of closing.
+use crate::answers::letters::answer_letter;
+use crate::answers::letters::end_letter;
+use crate::answers::letters::refusal_letter;
+use crate::bytes::part;
+use crate::bytes::pieces;
+use crate::bytes::put;
+use watcher::state::Found;
+use watcher::state::Wait;
+use watcher::state::Watcher;
+
+// Feeds the log to a watcher that started, closes it, and answers how many letters it wrote.
+fn fed(start: Watcher, log: &[u8], said: &mut [u8], area: &mut [u64]) -> usize {
+    let mut watcher = start;
+    let count = pieces(log, 16, 12);
+    for n in 0..count {
+        let fed = watcher.feed(part(log, 16 * n, 16), area);
+        let answer = fed.answer;
+        put(said, n, answer_letter(answer));
+        let next = fed.next;
+        watcher = next;
+    }
+    let ended = watcher.close(area);
+    let answer = ended.answer;
+    put(said, count, b'.');
+    put(said, count + 1, end_letter(answer));
+    count + 2
+}
+
+// Starts a watcher, and feeds and closes it where the start is not refused; answers how many letters it wrote.
+pub(crate) fn run(
+    rule: &[u8],
+    signals: &[u8],
+    log: &[u8],
+    said: &mut [u8],
+    area: &mut [u64],
+) -> usize {
+    let started = Watcher::start(rule, signals, area);
+    let found = started.found;
+    let watcher = started.next;
+    match found {
+        Found::Refused(refusal) => {
+            put(said, 0, refusal_letter(refusal));
+            1
+        }
+        Found::Fine => fed(watcher, log, said, area),
+    }
+}
+
+// The horizon of the watcher that starts with the lists; `none` if it has no limit.
+pub(crate) fn horizon_said(rule: &[u8], signals: &[u8], area: &mut [u64], none: u64) -> u64 {
+    let started = Watcher::start(rule, signals, area);
+    let watcher = started.next;
+    let wait = watcher.horizon();
+    match wait {
+        Wait::Forever => none,
+        Wait::Minutes(minutes) => minutes as u64,
+    }
+}

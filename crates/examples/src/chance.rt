@@ -1,0 +1,3 @@
+// Rules, signal lists and logs by chance, the same at each run.
+mod dice;
+pub(crate) mod random;

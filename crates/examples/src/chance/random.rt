@@ -1,0 +1,248 @@
+// Rules, signal lists and logs by chance: mostly right, now and then damaged.
+use crate::bytes::put;
+use crate::chance::dice::roll;
+use crate::chance::dice::roll_byte;
+use crate::chance::dice::seldom;
+use crate::made::put_in;
+use crate::made::put_interval;
+use crate::made::put_rule;
+use crate::made::put_signal;
+use crate::made::put_time;
+use crate::made::put_two;
+use crate::made::put_wind;
+ghost use Prim.Native.Nat.{_≤_};
+
+// The kind of rule record k: a signal first, then all kinds. The last one mostly looks ahead, for nothing lies
+// behind the first log record.
+fn kind_for(seed: &mut u64, k: u64, last: bool) -> u8 {
+    let face = roll(seed, 24);
+    if k == 0 {
+        return 3;
+    }
+    if last && face < 16 {
+        return if face < 6 { 6 } else { 7 };
+    }
+    match face {
+        0 => 1,
+        1 => 2,
+        2..=4 => 3,
+        5 => 4,
+        6 | 7 => 5,
+        8 | 9 => 6,
+        10..=13 => 7,
+        14..=16 => 8,
+        _ => 9,
+    }
+}
+
+// A record before k: mostly the one just before.
+fn earlier(seed: &mut u64, k: u64) -> u8 {
+    if seldom(seed, 3) {
+        return roll_byte(seed, k);
+    }
+    if k == 0 {
+        return 0;
+    }
+    ((k - 1) % 256) as u8
+}
+
+// A low end: 0 half of the time.
+fn low_end(seed: &mut u64) -> u8
+    ensures { λ r. ⌜ r ≤ 2 ⌝ }
+{
+    if seldom(seed, 2) {
+        return 0;
+    }
+    roll_byte(seed, 3) % 3
+}
+
+// Writes a small interval, now and then with no upper end, if the kind has one.
+fn interval(seed: &mut u64, rule: &mut [u8], start: usize, kind: u8) {
+    if kind < 6 {
+        return;
+    }
+    let low = low_end(seed);
+    let high = low + roll_byte(seed, 3) % 3;
+    let end = if seldom(seed, 4) { 255 } else { high };
+    put_interval(rule, start, low, end);
+}
+
+// What stands left in rule record k: nothing, signal k, or an earlier record.
+fn left_for(kind: u8, k: u8, left: u8) -> u8 {
+    match kind {
+        1 | 2 => 0,
+        3 => k,
+        _ => left,
+    }
+}
+
+// What stands right: nothing, or an earlier record.
+fn right_for(kind: u8, right: u8) -> u8 {
+    match kind {
+        4 | 5 | 7 | 9 => right,
+        _ => 0,
+    }
+}
+
+// Writes rule record k, which may be the last.
+fn rule_record(seed: &mut u64, rule: &mut [u8], k: u8, last: bool) {
+    let start = 8 * k as usize;
+    let kind = kind_for(seed, k as u64, last);
+    let left = earlier(seed, k as u64);
+    let right = roll_byte(seed, k as u64);
+    put_rule(
+        rule,
+        start,
+        kind,
+        left_for(kind, k, left),
+        right_for(kind, right),
+    );
+    interval(seed, rule, start, kind);
+}
+
+// Now and then overwrites a byte among the first so many.
+fn damage(seed: &mut u64, bytes: &mut [u8], count: usize, sides: u64) {
+    if !seldom(seed, sides) {
+        return;
+    }
+    let place = roll(seed, count as u64) as usize;
+    if seldom(seed, 2) {
+        put(bytes, place, roll_byte(seed, 256));
+    } else {
+        put(bytes, place, roll_byte(seed, 10));
+    }
+}
+
+// The length of a list: the usual one, and now and then another.
+fn length(seed: &mut u64, usual: usize) -> usize {
+    if !seldom(seed, 30) {
+        return usual;
+    }
+    if seldom(seed, 3) {
+        return 136;
+    }
+    roll(seed, 40) as usize
+}
+
+// How many records a list gets.
+fn records(seed: &mut u64, least: u64, sides: u64) -> usize
+    ensures { λ r. ⌜ r ≤ 200 ⌝ }
+{
+    (least % 100 + roll(seed, sides) % 100) as usize
+}
+
+// Writes a rule, and answers its length.
+pub(crate) fn random_rule(seed: &mut u64, rule: &mut [u8]) -> usize {
+    let count = records(seed, 1, 8);
+    for k in 0..count {
+        rule_record(seed, rule, k as u8, k + 1 == count);
+    }
+    damage(seed, rule, 8 * count, 10);
+    length(seed, 8 * count)
+}
+
+// A small number with a sign, now and then any of 16 bits.
+fn small(seed: &mut u64) -> u64 {
+    if seldom(seed, 16) {
+        return roll(seed, 65536);
+    }
+    (roll(seed, 12) % 65536 + 65534) % 65536
+}
+
+// A limit, half of the time one that a wind in km/h can meet exactly.
+fn limit(seed: &mut u64) -> u64 {
+    if seldom(seed, 2) {
+        return roll(seed, 3) % 3 * 5;
+    }
+    small(seed)
+}
+
+// A wind, mostly one that meets such a limit exactly in one of the units.
+fn strength(seed: &mut u64) -> u64 {
+    let face = roll(seed, 16);
+    match face {
+        0 => roll(seed, 65536),
+        1..=4 => roll(seed, 40),
+        5..=8 => roll(seed, 3) % 3 * 5,
+        _ => roll(seed, 3) % 3 * 18,
+    }
+}
+
+// Writes signal record n.
+fn signal_record(seed: &mut u64, signals: &mut [u8], n: usize) {
+    if 100 <= n {
+        return;
+    }
+    put_signal(signals, 8 * n, roll_byte(seed, 5) % 5 + 1, limit(seed));
+    put_in(signals, 8 * n, 1, roll_byte(seed, 2));
+}
+
+// Writes a signal list, and answers its length.
+pub(crate) fn random_signals(seed: &mut u64, signals: &mut [u8]) -> usize {
+    let count = records(seed, 4, 6);
+    for n in 0..count {
+        signal_record(seed, signals, n);
+    }
+    damage(seed, signals, 8 * count, 12);
+    length(seed, 8 * count)
+}
+
+// The time of the next record: 0 to 3 minutes later, now and then one earlier.
+fn later(seed: &mut u64, time: u64) -> u64 {
+    if seldom(seed, 12) {
+        return if time == 0 { 0 } else { time - 1 };
+    }
+    time % 4294967296 + roll(seed, 4) % 4
+}
+
+// Writes temperature and wind of a log record.
+fn weather(seed: &mut u64, log: &mut [u8], start: usize) {
+    put_two(log, start, 4, small(seed));
+    let wind = strength(seed);
+    put_wind(log, start, wind, roll_byte(seed, 2));
+}
+
+// Writes vents and rain of a log record.
+fn vents(seed: &mut u64, log: &mut [u8], start: usize) {
+    put_in(log, start, 8, roll_byte(seed, 12));
+    put_in(log, start, 9, roll_byte(seed, 12));
+    put_in(log, start, 10, roll_byte(seed, 2));
+}
+
+// Now and then overwrites a byte of a log record.
+fn spoil(seed: &mut u64, log: &mut [u8], start: usize) {
+    if !seldom(seed, 12) {
+        return;
+    }
+    let place = roll(seed, 16) as usize;
+    put_in(log, start, place, roll_byte(seed, 256));
+}
+
+// Writes log record n after a time, and answers its own time.
+fn log_record(seed: &mut u64, log: &mut [u8], n: usize, before: u64) -> u64 {
+    let time = later(seed, before);
+    if 50 <= n {
+        return time;
+    }
+    put_time(log, 16 * n, time);
+    weather(seed, log, 16 * n);
+    vents(seed, log, 16 * n);
+    spoil(seed, log, 16 * n);
+    time
+}
+
+// Writes a log, and answers its length, now and then with a short last piece.
+pub(crate) fn random_log(seed: &mut u64, log: &mut [u8]) -> usize {
+    let mut time = roll(seed, 4);
+    if seldom(seed, 8) {
+        time = 65534;
+    }
+    let count = records(seed, 0, 11);
+    for n in 0..count {
+        time = log_record(seed, log, n, time);
+    }
+    if seldom(seed, 8) {
+        return (roll(seed, 16) % 16) as usize + 16 * count;
+    }
+    16 * count
+}
