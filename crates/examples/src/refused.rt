@@ -71,7 +71,7 @@ fn running(rule: &[u8], area: &mut [u64]) -> Watcher {
     next
 }
 
-// A watcher of rule A that was fed that record. The rule has five parameters: two signals, and an until's three shifts.
+// A watcher of rule A that was fed that record. It has five parameters: two signals, and an until's three shifts.
 fn running_a(area: &mut [u64]) -> Watcher {
     let rule = rule_a(0, 2);
     running(&rule, area)
