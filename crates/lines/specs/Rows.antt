@@ -1,4 +1,4 @@
--- The line of a row of the work area, for the test program: its name, and the numbers of its terms.
+-- The line of a row of the work area, as `watch` prints it where the word `rows` asks for it.
 use mathlib.Core.Bool.{Bool, true, false, cond}
 use mathlib.Core.List.{List, [], _∷_, _++_}
 use Prim.Native.Nat.{ℕ, zero, suc, _^_}
