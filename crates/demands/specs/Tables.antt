@@ -2,7 +2,7 @@
 use mathlib.Core.Path.{_≡_}
 use mathlib.Core.Bool.{Bool, true, false}
 use mathlib.Core.Logic.{_⊎_, _↔_}
-use mathlib.Core.List.{List, [], _∷_}
+use mathlib.Core.List.{List, [], _∷_, _++_}
 use Prim.Native.Nat.{ℕ}
 use Rattle.watcher.specs.declared.state.Watcher.{Watcher}
 use Rattle.watcher.specs.declared.state.Found.{Found}
@@ -38,24 +38,25 @@ startTable rule signals ws =
     ∷ line 7 (wrongArea ws)
     ∷ []
 
--- feed: 7, 12, 10, 8, 9
-abbrev pub feedTable : Watcher → (bytes ws : List ℕ) → List Line
-feedTable w bytes ws =
+-- feed and close first: 7, 12, 10
+abbrev pub stateTable : Watcher → List ℕ → List Line
+stateTable w ws =
     line 7 (wrongArea ws)
     ∷ line 12 (brokenState w ws)
     ∷ line 10 (isClosed (stageOf (w .phase)))
-    ∷ line 8 (wrongRecord bytes)
-    ∷ line 9 (tooEarly (stageOf (w .phase)) (timeOf bytes))
     ∷ []
 
--- close: 7, 12, 10, 11
+-- feed then: 8, 9
+abbrev pub feedTable : Watcher → (bytes ws : List ℕ) → List Line
+feedTable w bytes ws =
+    stateTable w ws
+    ++ (line 8 (wrongRecord bytes)
+    ∷ line 9 (tooEarly (stageOf (w .phase)) (timeOf bytes))
+    ∷ [])
+
+-- close then: 11
 abbrev pub closeTable : Watcher → List ℕ → List Line
-closeTable w ws =
-    line 7 (wrongArea ws)
-    ∷ line 12 (brokenState w ws)
-    ∷ line 10 (isClosed (stageOf (w .phase)))
-    ∷ line 11 (isFresh (stageOf (w .phase)))
-    ∷ []
+closeTable w ws = stateTable w ws ++ (line 11 (isFresh (stageOf (w .phase))) ∷ [])
 
 -- the test with this number holds, and none before it does
 unfoldable pub Given : List Line → ℕ → Type 0
