@@ -191,7 +191,8 @@ lists-put w b₀ b₁ b₂ l e f j h =
 
 -- a byte of the numbers, made from the phase's parts
 pub byte-made : (w : Watcher) (i : ℕ) (last : Entry) (number x : ℕ) → recordsPlace ≤ i
-    → last ≡ lastIn (stageOf (w .phase)) → number ≡ phaseNumber (w .phase) → x ≡ numberByte (w .records) (w .signals) last number i → x ≡ byteAt w i
+    → last ≡ lastIn (stageOf (w .phase)) → number ≡ phaseNumber (w .phase)
+    → x ≡ numberByte (w .records) (w .signals) last number i → x ≡ byteAt w i
 byte-made w i last number x a l n e =
     let made : x ≡ numberByte (w .records) (w .signals) (lastIn (stageOf (w .phase))) (phaseNumber (w .phase)) i = cc in
     made ∙ byte-number w i a

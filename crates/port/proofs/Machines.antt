@@ -89,4 +89,5 @@ written-bytes w s =
     (λ i.
     either-byte (ltb i listPlace) _ _ (s .rule .small i)
     (either-byte (ltb i recordsPlace) _ _ (s .list .small (i - listPlace))
-    (number-byte (w .records) (w .signals) (lastIn (stageOf (w .phase))) (phaseNumber (w .phase)) i (phase-byte (w .phase)))))
+    (number-byte (w .records) (w .signals) (lastIn (stageOf (w .phase))) (phaseNumber (w .phase)) i
+    (phase-byte (w .phase)))))

@@ -19,7 +19,8 @@ use Rattle.watcher.specs.declared.state.Verdict.{Verdict}
 use Rattle.watcher.specs.declared.state.Phase.{Phase}
 use Rattle.watcher.specs.declared.state.Limits.{Limits}
 use Rattle.watcher.specs.Clauses.{LimitsClause, IsRefusedClause, WordClause, LastClause, ZeroStateClause}
-use Rattle.watcher.specs.Clauses.{CheckListsClause, NumberClause, WrongRecordClause, TimeOfClause, SignalWordClause}
+use Rattle.watcher.specs.Clauses.{CheckListsClause, NumberClause}
+use Rattle.watcher.specs.Clauses.{WrongRecordClause, TimeOfClause, SignalWordClause}
 use Rattle.watcher.specs.Clauses.{StartClause, WouldRefuseClause, FeedClause, CloseClause, HorizonClause}
 use Rattle.watcher.proofs.Numbers.{horizon-one}
 
