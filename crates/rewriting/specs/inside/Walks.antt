@@ -62,4 +62,5 @@ rowsFor row list plan here near other =
 abbrev pub Walked : Row → List ℕ → Plan → Moment → Neighbour → (held : ℕ) → List ℕ → List ℕ → Type 0
 Walked row list plan here near held ws r =
     (other : List (Form (plan .m))) → Holds (plan .m) ws (otherAt row (plan .places + 1)) held other
-    → r ≡ putRows ws (ownAt row (plan .places + 1)) (plan .m) (formRow (plan .m) (rowsFor row list plan here near other))
+    → r ≡ putRows ws (ownAt row (plan .places + 1)) (plan .m)
+    (formRow (plan .m) (rowsFor row list plan here near other))
