@@ -3,7 +3,8 @@
 use mathlib.Core.Path.{refl}
 use mathlib.Core.List.{[], _∷_}
 use Rattle.meaning.specs.Interval.{between, onward}
-use Rattle.meaning.specs.Tests.{entry, a, b, c, denied, and, or, next, previous, until, eventually, always, Differ}
+use Rattle.meaning.specs.Tests.{entry, a, b, c, denied, and, or, next, previous, until, eventually}
+use Rattle.meaning.specs.Tests.{always, Differ}
 
 -- 1. what ends in the longer time need not end in the shorter
 pub longer-not-shorter : Differ (until (between 0 2) a b) (until (between 0 1) a b) 0 (entry 0 1 ∷ entry 2 2 ∷ [])

@@ -22,13 +22,13 @@ use Rattle.rewriting.specs.declared.step.Step.{Step}
 use Rattle.rewriting.specs.declared.step.Plan.{Plan}
 use Rattle.rewriting.specs.declared.step.Moment.{Moment}
 use Rattle.rewriting.specs.declared.step.Neighbour.the-variants.{None}
-use Rattle.rewriting.specs.Decode.{nodeIn, nodeFor}
+use Rattle.rewriting.specs.Decode.{nodeIn, nodeFor, recordIn}
 use Rattle.rewriting.specs.Known.{pastIn, knownIn, formAt}
 use Rattle.rewriting.specs.Plans.{ruleFor, entryFor, readIn, Ready}
 use Rattle.rewriting.specs.inside.Steps.{neighbourOf, entryIn, rowBy, madeOf}
-use Rattle.rewriting.specs.inside.Walks.{Begins}
+use Rattle.rewriting.specs.inside.Walks.{stepIn}
 use Rattle.rewriting.specs.inside.Endings.{Settled, OfEnds, lastRows}
-use Rattle.rewriting.proofs.Rules.{length-ruleIn, node-in}
+use Rattle.rewriting.proofs.Rules.{length-ruleIn, node-in, record-node}
 use Rattle.rewriting.proofs.Placed.{tidy-held}
 use Rattle.rewriting.proofs.Tables.{forms-held}
 
@@ -57,22 +57,22 @@ module _ (list : List ℕ) (plan : Plan) (last : Moment) (ws : List ℕ) where
 
   pub last-more : (fs : List ℕ) → Ready list plan fs ws → (k first c setting r : ℕ) (step : Step)
       → k < plan .records → first ≡ firstOf (ruleFor list plan) k → c ≡ count (nodeIn list k)
-      → Begins list k first (plan .m) last None step → Settled (plan .m) (lastRows list plan last ws k) setting
+      → step ≡ stepIn list k first (plan .m) last None → Settled (plan .m) (lastRows list plan last ws k) setting
       → OfEnds step c fs k ws setting r → Settled (plan .m) (lastRows list plan last ws (k + 1)) r
   unfolding madeOf rowBy neighbourOf entryIn
-  last-more fs ready k first c setting r step h e q b s ends =
+  last-more fs ready k first c setting r step h e q is s ends =
       let m = plan .m in
       let rule = ruleFor list plan in
       let rows = lastRows list plan last ws k in
       let past = pastIn m ws in
       let forms = formsOf m rule k in
-      let d = step .record in
+      let d = recordIn list k in
       subst (λ x. Settled m x r)
       (ap (λ i. rows ++ tab i (derivedRow m past forms rows (entryFor last) none first (nodeFor d))) q
       ∙ ap₂ (λ i x. rows ++ tab (count (nodeIn list k)) (derivedRow m past forms rows (entryFor last) none i x)) e
-      (b .node)
+      (record-node list k d refl)
       ∙ sym (lastRows-more list plan last ws k h))
-      (subst (λ x. OfEnds x c fs k ws setting r) (b .same) ends past forms rows refl
+      (subst (λ x. OfEnds x c fs k ws setting r) is ends past forms rows refl
       (tidy-held (plan .places) m ws (ready .2) (ready .0 .few))
       (forms-held m rule k (plan .records) fs (omega arith) (ready .1))
       (length-lastRows list plan last ws k ∙ sym e) s)

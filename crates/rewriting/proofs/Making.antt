@@ -1,4 +1,4 @@
--- Rows that are made, whichever they are: where they stand, a record's shift after shift, and a rule's record by record.
+-- Rows that are made, whichever they are: where they stand, a record's by its shifts, and a rule's by its records.
 -- Assumes nothing.
 use mathlib.Core.Path.{_≡_, ap, subst}
 use mathlib.Core.Logic.{_⊎_, inl, inr}
@@ -65,10 +65,12 @@ module _ (row : Row) (step : Step) (fs : List ℕ) (k : ℕ) (ws : List ℕ) (sc
       kept : Kept row (step .m) area scratch held (step .first) own other
       kept = record {
         mine =
-            held-kept (step .m) ws (ownAt row scratch) (step .first) own rows at n area put (inl (le-refl at)) (h .mine);
+            held-kept (step .m) ws (ownAt row scratch) (step .first) own rows at n area put (inl (le-refl at))
+            (h .mine);
         theirs =
             held-kept (step .m) ws (otherAt row scratch) held other rows at n area put
-            (rows-apart row scratch held at n (apart .before) (omega arith) (omega (arith, apart .behind))) (h .theirs);
+            (rows-apart row scratch held at n (apart .before) (omega arith) (omega (arith, apart .behind)))
+            (h .theirs);
       }
 
   pub puts-done : (n count : ℕ) (area : List ℕ) → Puts row step n fs k ws scratch held area → n ≤ count → count ≤ n
@@ -76,7 +78,8 @@ module _ (row : Row) (step : Step) (fs : List ℕ) (k : ℕ) (ws : List ℕ) (sc
   puts-done n count area h a b = subst (λ x. Puts row step x fs k ws scratch held area) (le-antisymm a b) h
 
 -- a rule's rows: those of more records begin with those of fewer, and each is made from them
-pub length-table : (row : Row) (m : ℕ) (rule : List Node) (other : List (Form m)) (e : Entry) (near : Neighbour) (k : ℕ)
+pub length-table : (row : Row) (m : ℕ) (rule : List Node) (other : List (Form m)) (e : Entry) (near : Neighbour)
+    (k : ℕ)
     → length (tableOf row m rule other e near k) ≡ firstOf rule k
 unfolding tableOf
 length-table Derived = length-derivedRows
@@ -92,7 +95,8 @@ table-more Past = past-more
 pub table-made : (row : Row) (m : ℕ) (rule : List Node) (other : List (Form m)) (e : Entry) (near : Neighbour)
     (k K n : ℕ) → k < K → n < count (nodeAt rule k)
     → formIn m (tableOf row m rule other e near K) (firstOf rule k + n)
-    ≡ rowBy row m (tableOf row m rule other e near k) other (formsOf m rule k) e near (firstOf rule k) (nodeAt rule k) n
+    ≡ rowBy row m (tableOf row m rule other e near k) other (formsOf m rule k) e near (firstOf rule k)
+    (nodeAt rule k) n
 unfolding tableOf rowBy
 table-made Derived = derived-made
 table-made Past = past-made

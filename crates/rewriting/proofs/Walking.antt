@@ -17,14 +17,14 @@ use Rattle.rewriting.specs.declared.step.Step.{Step}
 use Rattle.rewriting.specs.declared.step.Neighbour.{Neighbour}
 use Rattle.rewriting.specs.declared.step.Plan.{Plan}
 use Rattle.rewriting.specs.declared.step.Moment.{Moment}
-use Rattle.rewriting.specs.Decode.{nodeIn, nodeFor}
+use Rattle.rewriting.specs.Decode.{nodeIn, nodeFor, recordIn}
 use Rattle.rewriting.specs.Known.{wordsFor}
 use Rattle.rewriting.specs.Plans.{ruleFor, entryFor, Sound, HoldsForms, formRow}
 use Rattle.rewriting.specs.inside.Steps.{neighbourOf, entryIn, Fair, ownAt, otherAt, rowBy, madeOf}
-use Rattle.rewriting.specs.inside.Walks.{stepOf, Begins, Apart, madeRow, Puts, tableOf, rowsFor}
+use Rattle.rewriting.specs.inside.Walks.{stepIn, Apart, madeRow, Puts, tableOf, rowsFor}
 use Rattle.rewriting.proofs.Counting.{firstOf-rule, parameters-done}
 use Rattle.rewriting.proofs.Making.{own-room, rows-apart, length-table, table-more, table-made}
-use Rattle.rewriting.proofs.Rules.{node-in}
+use Rattle.rewriting.proofs.Rules.{node-in, record-node}
 use Rattle.rewriting.proofs.Tables.{forms-held}
 use Rattle.rewriting.proofs.Written.{wrote-block, held-put, held-kept}
 
@@ -46,20 +46,22 @@ module _ (list : List ℕ) (plan : Plan) (sound : Sound list plan) (k first c : 
   count-is : c ≡ count (nodeAt (ruleFor list plan) k)
   count-is = counted ∙ ap count (sym (node-in list (plan .records) k less))
 
-  module _ (here : Moment) (near : Neighbour) (step : Step) (b : Begins list k first (plan .m) here near step) where
-    node-is : nodeFor (step .record) ≡ nodeAt (ruleFor list plan) k
-    node-is = b .node ∙ sym (node-in list (plan .records) k less)
+  module _ (here : Moment) (near : Neighbour) (step : Step)
+      (is : step ≡ stepIn list k first (plan .m) here near) where
+    node-is : nodeFor (recordIn list k) ≡ nodeAt (ruleFor list plan) k
+    node-is = record-node list k (recordIn list k) refl ∙ sym (node-in list (plan .records) k less)
 
     -- what the loops over its shifts ask for: the scratch comes after the past rows
     pub step-ready : (held : ℕ) → held ≤ plan .m → Fair step × Apart step c (plan .places + 1) held
+    unfolding recordIn
     step-ready held h =
         subst (λ (s : Step). Fair s × Apart s c (plan .places + 1) held)
-        (sym (b .same)) (
+        (sym is) (
           record {
             few = omega (arith, sound .few, sound .room);
             within = omega (arith, block-fits, sound .few, sound .room);
             byte = omega arith;
-            some = subst (λ x. 1 ≤ x) (sym (b .kind)) (sound .kinds k less);
+            some = sound .kinds k less;
           },
           record {
             before = omega (arith, sound .few);
@@ -89,9 +91,9 @@ module _ (list : List ℕ) (plan : Plan) (sound : Sound list plan) (k first c : 
         let forms : List (Form m) = formsOf m rule k in
         let own : List (Form m) = tableOf row m rule other e nb k in
         let rows : ℕ → List ℕ = formRow m (rowsFor row list plan here near other) in
-        let made = madeRow row (stepOf (step .record) first m here near) own other forms in
+        let made = madeRow row (stepIn list k first m here near) own other forms in
         wrote-block ws base rows first c (base + first) made area next w refl
-        (subst (λ s. Puts row s c fs k area scratch held next) (b .same) puts own other forms
+        (subst (λ s. Puts row s c fs k area scratch held next) is puts own other forms
         (record {
           mine =
               held-put m ws base first own rows area w (length-table row m rule other e nb k ∙ sym begins)

@@ -1,4 +1,4 @@
-// One row of a record's shift, derived or past. The past rows stand first in the area, the derived rows in its scratch.
+// One row of a record's shift, derived or past. Past rows stand first in the area, derived rows in its scratch.
 use crate::derived::derived_row;
 use crate::parts::signal;
 use crate::past::past_row;

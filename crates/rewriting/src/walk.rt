@@ -16,7 +16,7 @@ ghost use lib.ListN.{length};
 ghost use Rattle.rewriting.specs.Known.{wordsFor};
 ghost use Rattle.rewriting.specs.Plans.{Sound, HoldsForms};
 ghost use Rattle.rewriting.specs.inside.Steps.{Fair};
-ghost use Rattle.rewriting.specs.inside.Walks.{Begins, Apart, Puts, Walked};
+ghost use Rattle.rewriting.specs.inside.Walks.{stepIn, Apart, Puts, Walked};
 ghost use Rattle.rewriting.specs.Clauses.{FormsOfClause};
 
 // The forms of the first `records` records of the rule, in a table.
@@ -41,7 +41,7 @@ pub(crate) fn step_at(
     here: Moment,
     neighbour: Neighbour,
 ) -> Step
-    ensures { λ r. ⌜ Begins (now (list .entry)) k first m here neighbour r ⌝ }
+    ensures { λ r. ⌜ r ≡ stepIn (now (list .entry)) k first m here neighbour ⌝ }
 {
     let record = record_at(list, k);
     Step {

@@ -38,7 +38,8 @@ use Rattle.rewriting.proofs.Rules.{length-ruleIn, node-in}
 use Rattle.watcher.specs.declared.shape.Here.{Here}
 use Rattle.watcher.specs.Limits.{mostParameters}
 use Rattle.watcher.specs.State.{looksForward, forward, wrongRow, wrongRows}
-use Rattle.watcher.specs.inside.Shapes.{Before, Tells, Placed, Fitting, widened, wrongRecord, RowWrong, RecordWrong}
+use Rattle.watcher.specs.inside.Shapes.{Before, Tells, Placed, Fitting, widened, wrongRecord}
+use Rattle.watcher.specs.inside.Shapes.{RowWrong, RecordWrong}
 
 -- a row that fits is that of its form
 pub row-is : (m : ℕ) (row : List ℕ) → length row ≡ 64 → ((i : ℕ) → Fits w64 (getD row i 0)) → fits m row ≡ true

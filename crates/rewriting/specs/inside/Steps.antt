@@ -103,7 +103,7 @@ OfMade row step fs k ws scratch held r =
     → r ≡ pack (step .m) (madeOf row step own other forms (nodeFor (step .record)) (step .shift))
 
 -- until or since, from right's form and the second part's
-unfoldable pub nowOr : (step : Step) → (right second : Form (step .m)) → (rows : List (Form (step .m))) → Form (step .m)
+unfoldable pub nowOr : (step : Step) (right second : Form (step .m)) (rows : List (Form (step .m))) → Form (step .m)
 nowOr step right second rows =
     or (step .m)
     (onlyIf (step .m) (interval.inside (interval.shifted (intervalIn step) (step .shift)) (step .here) (step .here))

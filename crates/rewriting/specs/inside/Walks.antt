@@ -8,22 +8,21 @@ use Rattle.forms.specs.Area.{putRows, Holds}
 use Rattle.meaning.specs.Rule.{Node, Entry}
 use Rattle.meaning.specs.Rewriting.{derivedRows, pastRows}
 use Rattle.meaning.specs.Rewriting as rewriting
-use Rattle.rewriting.specs.Decode.{byteOf, nodeFor, nodeIn}
+use Rattle.rewriting.specs.Decode.{recordIn, nodeFor}
 use Rattle.rewriting.specs.Plans.{formRow, ruleFor, entryFor}
 use Rattle.rewriting.specs.inside.Steps.{neighbourOf, ownAt, otherAt, Kept, madeOf}
 use Rattle.rewriting.specs.declared.row.Row.{Row}
 use Rattle.rewriting.specs.declared.row.Row.the-variants.{Derived, Past}
-use Rattle.rewriting.specs.declared.step.Record.{Record}
 use Rattle.rewriting.specs.declared.step.Step.{Step}
 use Rattle.rewriting.specs.declared.step.Neighbour.{Neighbour}
 use Rattle.rewriting.specs.declared.step.Plan.{Plan}
 use Rattle.rewriting.specs.declared.step.Moment.{Moment}
 
--- a record of the rule whose parameters begin at first, at a record of the log, with shift 0
-abbrev pub stepOf : Record → ℕ → ℕ → Moment → Neighbour → Step
-stepOf d first m here near =
+-- record k of the rule, whose parameters begin at first, at a record of the log, with shift 0
+abbrev pub stepIn : List ℕ → (k first m : ℕ) → Moment → Neighbour → Step
+stepIn list k first m here near =
     record {
-      «record» = d;
+      «record» = recordIn list k;
       first = first;
       shift = 0;
       m = m;
@@ -31,12 +30,6 @@ stepOf d first m here near =
       signals = here .signals;
       neighbour = near;
     }
-
--- the answer is that of record k
-pub record Begins (list : List ℕ) (k first m : ℕ) (here : Moment) (near : Neighbour) (r : Step) : Type 0 where
-  pub same : r ≡ stepOf (r .record) first m here near
-  pub node : nodeFor (r .record) ≡ nodeIn list k
-  pub kind : r .record .kind ≡ byteOf list k 0
 
 -- the record's own places and the others lie apart, and no sum of them wraps
 pub record Apart (step : Step) (count scratch held : ℕ) : Type 0 where
@@ -69,4 +62,5 @@ rowsFor row list plan here near other =
 abbrev pub Walked : Row → List ℕ → Plan → Moment → Neighbour → (held : ℕ) → List ℕ → List ℕ → Type 0
 Walked row list plan here near held ws r =
     (other : List (Form (plan .m))) → Holds (plan .m) ws (otherAt row (plan .places + 1)) held other
-    → r ≡ putRows ws (ownAt row (plan .places + 1)) (plan .m) (formRow (plan .m) (rowsFor row list plan here near other))
+    → r ≡ putRows ws (ownAt row (plan .places + 1)) (plan .m)
+    (formRow (plan .m) (rowsFor row list plan here near other))

@@ -39,14 +39,14 @@ past-row-requires c κs = search needs
 returns-3 : tie.Need-returns-3
 returns-3 c =
     let a = c .before .before .before .before .before .before .before .args in
-    made-by _ _ (a .step) (a .forms .now) (a .k) (a .area .now) (a .scratch) (a .held) _ (c .before .enum-told .given .1)
-    (c .derived-row .ensures)
+    made-by _ _ (a .step) (a .forms .now) (a .k) (a .area .now) (a .scratch) (a .held) _
+    (c .before .enum-told .given .1) (c .derived-row .ensures)
 
 returns-4 : tie.Need-returns-4
 returns-4 c =
     let a = c .before .before .before .before .before .before .before .args in
-    made-by _ _ (a .step) (a .forms .now) (a .k) (a .area .now) (a .scratch) (a .held) _ (c .before .enum-told2 .given .1)
-    (c .past-row .ensures)
+    made-by _ _ (a .step) (a .forms .now) (a .k) (a .area .now) (a .scratch) (a .held) _
+    (c .before .enum-told2 .given .1) (c .past-row .ensures)
 
 pub step-row-spec : {M : Type 1} → statement M
 step-row-spec =

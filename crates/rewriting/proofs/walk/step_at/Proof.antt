@@ -1,8 +1,6 @@
 -- `walk::step_at` meets its contract: the record is that of the list.
 -- Assumes nothing.
-use mathlib.Core.Path.{refl}
 use borrow.Author.Needs.{needs}
-use Rattle.rewriting.proofs.Rules.{record-node, record-kind}
 use Rattle.rewriting.proofs.walk.step_at.Statement.{statement}
 use Rattle.rewriting.proofs.walk.step_at.Tie as tie
 
@@ -10,12 +8,7 @@ record-at-requires : tie.Need-record-at-requires
 record-at-requires c κs = search needs
 
 returns : tie.Need-returns
-returns c =
-    record {
-      same = refl;
-      node = record-node _ _ _ (c .record-at .ensures);
-      kind = record-kind _ _ _ (c .record-at .ensures);
-    }
+returns c = cc
 
 pub step-at-spec : {M : Type 1} → statement M
 step-at-spec = tie.close (tie.spec record-at-requires returns)

@@ -70,7 +70,8 @@ returns-5 c =
     broken-unused _ _ (sym (a .before .start-refuses .ensures) ∙ a .if1 .left)
     (sym (b .before .not-zeros-behind .ensures) ∙ b .if2 .left)
     (sym (s .before .signals-above .ensures) ∙ s .if3 .left) _
-    (own-parameters _ _ (sym (a .before .start-refuses .ensures) ∙ a .if1 .left) (m .parameters-in .ensures)) (sym (d .before .bits-above .ensures) ∙ d .if4 .left)
+    (own-parameters _ _ (sym (a .before .start-refuses .ensures) ∙ a .if1 .left) (m .parameters-in .ensures))
+    (sym (d .before .bits-above .ensures) ∙ d .if4 .left)
     (sym (c .before .not-zero-from .ensures) ∙ c .if5 .taken)
 
 wrong-in-phase-requires : tie.Need-wrong-in-phase-requires
@@ -94,7 +95,8 @@ returns-6 c =
     broken-phase _ _ (sym (a .before .start-refuses .ensures) ∙ a .if1 .left)
     (sym (b .before .not-zeros-behind .ensures) ∙ b .if2 .left)
     (sym (s .before .signals-above .ensures) ∙ s .if3 .left) _
-    (own-parameters _ _ (sym (a .before .start-refuses .ensures) ∙ a .if1 .left) (m .parameters-in .ensures)) (sym (d .before .bits-above .ensures) ∙ d .if4 .left) _
+    (own-parameters _ _ (sym (a .before .start-refuses .ensures) ∙ a .if1 .left) (m .parameters-in .ensures))
+    (sym (d .before .bits-above .ensures) ∙ d .if4 .left) _
     (sym (e .before .not-zero-from .ensures) ∙ e .if5 .left) (c .wrong-in-phase .ensures)
 
 pub broken-state-spec : {M : Type 1} → statement M
