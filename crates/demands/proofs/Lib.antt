@@ -1,6 +1,5 @@
 pub mod Examples
 pub mod Padding
-pub mod OwnRows
 pub mod OwnStates
 pub mod Feeding
 pub mod Judging

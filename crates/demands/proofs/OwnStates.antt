@@ -12,6 +12,7 @@ use Rattle.meaning.specs.Rule.{parameters}
 use Rattle.meaning.specs.Words.{Known}
 use Rattle.meaning.specs.Shape.{KnownShape}
 use Rattle.rewriting.specs.Known.{areaOf, pastIn}
+use Rattle.rewriting.specs.Shape.{bitsAbove, notZeroFrom, wrongRows}
 use Rattle.watcher.specs.declared.state.Watcher.{Watcher}
 use Rattle.watcher.specs.declared.state.Phase.{Phase}
 use Rattle.watcher.specs.declared.state.Phase.the-variants as phase
@@ -24,16 +25,16 @@ use Rattle.watcher.specs.Rules.{recordsOf}
 use Rattle.watcher.specs.Lists.{Test, firstRefusal, listTests, listsRefusal}
 use Rattle.watcher.specs.Numbers.{stageOf}
 use Rattle.watcher.specs.State.{ruleOf, parametersOf, ruleBytes, listBytesOf, isRefused, startRefuses}
-use Rattle.watcher.specs.State.{notZerosBehind, signalsAbove, bitsAbove, notZeroFrom, wrongRows, wrongInPhase}
-use Rattle.watcher.specs.State.{brokenState}
+use Rattle.watcher.specs.State.{notZerosBehind, signalsAbove, wrongInPhase, brokenState}
 use Rattle.watcher.specs.Calls.{wrongArea, startRefusal, padded}
 use Rattle.demands.specs.Rewritten.{readRule, parametersIn}
 use Rattle.watcher.proofs.Decoded.{Accepted, fine-tests, tests-fine, first-fine, length-fine, Whole}
 use Rattle.watcher.proofs.Decoded.{accepted-list, accepted-few}
 use Rattle.watcher.proofs.Refusing.{length-most}
 use Rattle.rewriting.proofs.Placed.{read-past}
+use Rattle.rewriting.proofs.TidyRows.{bits-fine, unused-fine}
+use Rattle.rewriting.proofs.ShapedRows.{rows-fine}
 use Rattle.demands.proofs.Padding.{take-padded, zeros-padded, rule-padded}
-use Rattle.demands.proofs.OwnRows.{bits-fine, unused-fine, rows-fine}
 
 -- tests one after another
 first-split : (ts us : List Test) → firstRefusal (ts ++ us) ≡ Fine
@@ -145,15 +146,16 @@ module _ (rule signals : List ℕ) (fine : Accepted rule signals) where
 
   -- so the state is broken only by its phase or its area
   pub broken-in : (p : Phase) (ws : List ℕ) → signalsAbove (recordsOf signals) (stageOf p) ≡ false
-      → bitsAbove (parametersIn rule) ws ≡ false → notZeroFrom (parametersIn rule) ws ≡ false
+      → bitsAbove mostParameters (parametersIn rule) ws ≡ false
+      → notZeroFrom mostParameters (parametersIn rule) ws ≡ false
       → wrongInPhase (stateIn rule signals p) ws (stageOf p) ≡ false → brokenState (stateIn rule signals p) ws ≡ false
   unfolding brokenState stateIn
   broken-in p ws above bits unused rows =
       ap₂ _||_ (lists-in p)
       (ap₂ _||_ (zeros-in p)
       (ap₂ _||_ above
-      (ap₂ _||_ (ap (λ m. bitsAbove m ws) (parameters-in p) ∙ bits)
-      (ap₂ _||_ (ap (λ m. notZeroFrom m ws) (parameters-in p) ∙ unused) rows))))
+      (ap₂ _||_ (ap (λ m. bitsAbove mostParameters m ws) (parameters-in p) ∙ bits)
+      (ap₂ _||_ (ap (λ m. notZeroFrom mostParameters m ws) (parameters-in p) ∙ unused) rows))))
 
 -- what is known is as the watcher makes it: a past row of the right shape for each parameter, no signal past the list
 pub record Lawful (rule signals : List ℕ) (s : Known (parametersIn rule)) : Type 0 where
@@ -169,8 +171,8 @@ module _ (rule signals : List ℕ) (fine : Accepted rule signals) where
   unfolding stageOf signalsAbove wrongInPhase
   fresh-fine remainder =
       broken-in rule signals fine phase.Fresh (areaOf mostParameters m [] remainder) refl
-      (bits-fine m [] remainder) (unused-fine m [] remainder m (omega arith))
-      (unused-fine m [] remainder 0 (omega arith))
+      (bits-fine mostParameters m [] remainder) (unused-fine mostParameters m [] remainder m (omega arith))
+      (unused-fine mostParameters m [] remainder 0 (omega arith))
     where
       m : ℕ
       m = parametersIn rule
@@ -183,8 +185,8 @@ module _ (rule signals : List ℕ) (fine : Accepted rule signals) where
   running-fine s ok =
       broken-in rule signals fine p ws
       (lt-leb (2 ^ recordsOf signals) (s .last .signals) (ok .below))
-      (bits-fine m (s .past) (s .remainder))
-      (unused-fine m (s .past) (s .remainder) m (omega (arith, ok .long)))
+      (bits-fine mostParameters m (s .past) (s .remainder))
+      (unused-fine mostParameters m (s .past) (s .remainder) m (omega (arith, ok .long)))
       (ap (λ r. wrongRows r (parameters r) (s .last) (pastIn (parameters r) ws)) (rule-in rule signals fine p)
       ∙ ap (wrongRows (readRule rule) m (s .last))
       (read-past mostParameters m (s .past) (s .remainder) few few (ok .long))
@@ -210,5 +212,5 @@ module _ (rule signals : List ℕ) (fine : Accepted rule signals) where
   unfolding stageOf signalsAbove wrongInPhase
   closed-fine v past remainder long =
       broken-in rule signals fine (phase.Closed v) (areaOf mostParameters (parametersIn rule) past remainder) refl
-      (bits-fine (parametersIn rule) past remainder)
-      (unused-fine (parametersIn rule) past remainder (parametersIn rule) (omega (arith, long))) refl
+      (bits-fine mostParameters (parametersIn rule) past remainder)
+      (unused-fine mostParameters (parametersIn rule) past remainder (parametersIn rule) (omega (arith, long))) refl

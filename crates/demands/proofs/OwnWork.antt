@@ -23,7 +23,7 @@ use Rattle.demands.specs.Logs.{lastTime, Course, going, over, courseOf, 
 use Rattle.demands.specs.Rewritten.{readRule, parametersIn, heldKnown, heldAfter, heldClosed, heldIn}
 use Rattle.demands.specs.Tables.{foundIn, foundAt, Carries}
 use Rattle.demands.specs.OwnWork.{OwnWorkIsFine}
-use Rattle.demands.proofs.OwnRows.{past-laid}
+use Rattle.rewriting.proofs.TidyRows.{past-laid}
 use Rattle.demands.proofs.OwnStates.{start-accepted, stateIn, rule-in, lists-in}
 use Rattle.demands.proofs.Logs.{Right}
 use Rattle.demands.proofs.Courses.{Sound, ready-after, wrong-stays, early-stays, close-none, close-some}
@@ -42,8 +42,8 @@ module _ (rule signals : List ℕ) (fine : Accepted rule signals) where
       let m : ℕ = parametersIn rule in
       let s : Known m = after m (readRule rule) e es in
       ap (λ (x : Held). rowAt (x .area) j) (close-some rule signals fine e es r .1)
-      ∙ past-laid m (s .past) (constant m (valueOf (e ∷ es) (readRule rule))) j h
-      ∙ sym (past-laid m (s .past) (s .remainder) j h)
+      ∙ past-laid mostParameters m (s .past) (constant m (valueOf (e ∷ es) (readRule rule))) j h
+      ∙ sym (past-laid mostParameters m (s .past) (s .remainder) j h)
   past-kept (over e es) r j h =
       ap (λ (x : Held). rowAt (x .area) j) (closed-stays rule signals fine e es r [] .1 .1)
 

@@ -1,26 +1,28 @@
 -- The work area of an accepted call: what the scratch holds at entry does not count.
 -- Assumes nothing.
 use mathlib.Core.Path.{_≡_, refl, sym, ap, ap₂, _∙_}
-use mathlib.Core.Bool.{Bool, true, false, not, _&&_, _||_}
+use mathlib.Core.Bool.{Bool, true, false, not, _||_}
 use mathlib.Core.List.{List, _++_}
 use Prim.Native.Nat.{ℕ, _+_, _≤_, _<_}
 use native.Mathlib.Omega.{arith}
 use lib.ListN.{length}
-use lib.Dec.{eqb, leb}
-use Rattle.ground.proofs.Folds.{fold-cong}
+use lib.Dec.{eqb}
 use Rattle.ground.proofs.Tabs.{tab-cong}
-use Rattle.forms.specs.Words.{unpack, fits}
+use Rattle.forms.specs.Words.{unpack}
+use Rattle.forms.specs.Area.{rowAt}
 use Rattle.meaning.specs.Rule.{Node, Entry}
 use Rattle.meaning.specs.Words.{Known, leave, feed, close, valueIfLast, word}
 use Rattle.rewriting.specs.Known.{formAt, pastIn, knownIn, areaOf}
+use Rattle.rewriting.specs.Shape.{bitsAbove, notZeroFrom, wrongRows}
+use Rattle.rewriting.proofs.TidyRows.{bits-same, zeros-same}
 use Rattle.watcher.specs.declared.state.Watcher.{Watcher}
 use Rattle.watcher.specs.declared.state.Found.the-variants as found
 use Rattle.watcher.specs.declared.state.Answer.the-variants as answer
 use Rattle.watcher.specs.declared.state.End.the-variants as end
 use Rattle.watcher.specs.Limits.{mostParameters, listBytes, areaWords}
 use Rattle.watcher.specs.Numbers.{saying, verdictFor, Stage, fresh, running, closed, stageOf}
-use Rattle.watcher.specs.State.{parametersOf, startRefuses, notZerosBehind, signalsAbove, bitsAbove, zeroRow}
-use Rattle.watcher.specs.State.{notZeroFrom, wrongRows, wrongInPhase, brokenState, ruleOf}
+use Rattle.watcher.specs.State.{parametersOf, startRefuses, notZerosBehind, signalsAbove, wrongInPhase, brokenState}
+use Rattle.watcher.specs.State.{ruleOf}
 use Rattle.watcher.specs.Records.{entryOf}
 use Rattle.watcher.specs.Lists.{Test, firstRefusal}
 use Rattle.watcher.specs.Calls.{wrongArea, stateTests, startRefusal, feedRefusal, closeRefusal}
@@ -52,6 +54,9 @@ module _ (a b : List ℕ) (alike : Alike a b) where
   unfolding wrongArea
   area-same = ap (λ n. not (eqb n areaWords)) (alike .long)
 
+  rows : (j : ℕ) → j ≤ mostParameters → rowAt a j ≡ rowAt b j
+  rows j h = alike .rows j (omega arith)
+
   form-same : (m j : ℕ) → j < mostParameters + 1 → formAt m a j ≡ formAt m b j
   unfolding formAt
   form-same m j h = ap (unpack m) (alike .rows j h)
@@ -67,16 +72,6 @@ module _ (a b : List ℕ) (alike : Alike a b) where
       ap₂ (λ past f. record { past = past; remainder = f; last = last }) (past-same m h)
       (form-same m mostParameters (omega arith))
 
-  zeros-same : (from : ℕ) → notZeroFrom from a ≡ notZeroFrom from b
-  unfolding notZeroFrom
-  zeros-same from =
-      fold-cong _||_ false mostParameters _ _
-      (λ j h. ap (λ row. leb from j && not (zeroRow row)) (alike .rows j (omega arith)))
-
-  bits-same : (m : ℕ) → bitsAbove m a ≡ bitsAbove m b
-  unfolding bitsAbove
-  bits-same m = fold-cong _||_ false (mostParameters + 1) _ _ (λ j h. ap (λ row. not (fits m row)) (alike .rows j h))
-
   -- a state's rule is an array of 128 bytes
   module _ (w : Watcher) (long : length (w .rule) ≡ listBytes) where
     few : startRefuses w ≡ false → parametersOf w ≤ mostParameters
@@ -84,7 +79,7 @@ module _ (a b : List ℕ) (alike : Alike a b) where
 
     phase-same : parametersOf w ≤ mostParameters → (stage : Stage) → wrongInPhase w a stage ≡ wrongInPhase w b stage
     unfolding wrongInPhase
-    phase-same h fresh = zeros-same 0
+    phase-same h fresh = zeros-same mostParameters a b rows 0
     phase-same h (running e) = ap (wrongRows (ruleOf w) (parametersOf w) e) (past-same (parametersOf w) h)
     phase-same h (closed v) = refl
 
@@ -96,15 +91,15 @@ module _ (a b : List ℕ) (alike : Alike a b) where
         rest ws =
             notZerosBehind w
             || (signalsAbove (w .signals) (stageOf (w .phase))
-            || (bitsAbove (parametersOf w) ws
-            || (notZeroFrom (parametersOf w) ws || wrongInPhase w ws (stageOf (w .phase)))))
+            || (bitsAbove mostParameters (parametersOf w) ws
+            || (notZeroFrom mostParameters (parametersOf w) ws || wrongInPhase w ws (stageOf (w .phase)))))
 
         go : (t : Bool) → startRefuses w ≡ t → (t || rest a) ≡ (t || rest b)
         go true e = refl
         go false e =
             ap (λ x. notZerosBehind w || (signalsAbove (w .signals) (stageOf (w .phase)) || x))
-            (ap₂ _||_ (bits-same (parametersOf w))
-            (ap₂ _||_ (zeros-same (parametersOf w)) (phase-same (few e) (stageOf (w .phase)))))
+            (ap₂ _||_ (bits-same mostParameters a b rows (parametersOf w))
+            (ap₂ _||_ (zeros-same mostParameters a b rows (parametersOf w)) (phase-same (few e) (stageOf (w .phase)))))
 
     -- the same refusal, or none
     pub feed-refusal-same : (bytes : List ℕ) → feedRefusal w bytes a ≡ feedRefusal w bytes b

@@ -15,4 +15,8 @@ pub mod Lasting
 pub mod Laid
 pub mod Feeding
 pub mod Rewritten
+pub mod TidyRows
+pub mod ShapeLaws
+pub mod RecordRows
+pub mod ShapedRows
 pub mod OnlyOne

@@ -11,6 +11,7 @@ use Rattle.rewriting.specs.declared.step.Moment.{Moment}
 use Rattle.rewriting.specs.Clauses.{ByteOfClause, CountAtClause, ParametersInClause, RecordAtClause}
 use Rattle.rewriting.specs.Clauses.{SignalClause, FormsOfClause, FirstClause, FeedClause}
 use Rattle.rewriting.specs.Clauses.{ValueIfLastClause, CloseClause, BeginClause}
+use Rattle.rewriting.specs.Clauses.{BitsAboveClause, NotZeroFromClause, WrongRowsClause}
 
 -- what is read of a rule list
 module _ (list : List ℕ) (k : ℕ) where
@@ -54,3 +55,15 @@ module _ (list : List ℕ) (plan : Plan) (forms ws : List ℕ) where
 
   pub only-begin : (o o′ : List ℕ) → BeginClause list plan forms ws o → BeginClause list plan forms ws o′ → o ≡ o′
   only-begin = only-one _
+
+-- whether rows are wrong
+module _ (places k : ℕ) (ws : List ℕ) where
+  pub only-bits-above : (o o′ : Bool) → BitsAboveClause places k ws o → BitsAboveClause places k ws o′ → o ≡ o′
+  only-bits-above = only-one _
+
+  pub only-not-zero-from : (o o′ : Bool) → NotZeroFromClause places k ws o → NotZeroFromClause places k ws o′ → o ≡ o′
+  only-not-zero-from = only-one _
+
+pub only-wrong-rows : (list : List ℕ) (plan : Plan) (last : Moment) (ws : List ℕ) (o o′ : Bool)
+    → WrongRowsClause list plan last ws o → WrongRowsClause list plan last ws o′ → o ≡ o′
+only-wrong-rows list plan last ws = only-one _

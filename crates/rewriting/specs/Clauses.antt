@@ -11,8 +11,9 @@ use Rattle.rewriting.specs.declared.step.Record.{Record}
 use Rattle.rewriting.specs.declared.step.Plan.{Plan}
 use Rattle.rewriting.specs.declared.step.Moment.{Moment}
 use Rattle.rewriting.specs.Decode.{byteOf, recordIn, nodeIn, ruleIn}
-use Rattle.rewriting.specs.Known.{areaOf}
-use Rattle.rewriting.specs.Plans.{tableWith, ruleFor, readIn, leftWith, fedWith, closedWith}
+use Rattle.rewriting.specs.Known.{pastIn, areaOf}
+use Rattle.rewriting.specs.Plans.{tableWith, ruleFor, entryFor, readIn, leftWith, fedWith, closedWith}
+use Rattle.rewriting.specs.Shape.{bitsAbove, notZeroFrom, wrongRows}
 
 -- byte i of record k
 abbrev pub ByteOfClause : (list : List ℕ) (k i : ℕ) → ℕ → Type 0
@@ -57,3 +58,16 @@ CloseClause list plan last forms ws o = o ≡ closedWith plan (ruleFor list plan
 -- the area at start
 abbrev pub BeginClause : (list : List ℕ) → Plan → (forms ws : List ℕ) → List ℕ → Type 0
 BeginClause list plan forms ws o = o ≡ areaOf (plan .places) (plan .m) [] (start (plan .m) (ruleFor list plan))
+
+-- whether a past row or the remainder has a bit at or above 2^m
+abbrev pub BitsAboveClause : (places m : ℕ) (ws : List ℕ) → Bool → Type 0
+BitsAboveClause places m ws o = o ≡ bitsAbove places m ws
+
+-- whether a past row from some place on is not zero
+abbrev pub NotZeroFromClause : (places from : ℕ) (ws : List ℕ) → Bool → Type 0
+NotZeroFromClause places from ws o = o ≡ notZeroFrom places from ws
+
+-- whether a past row is not what it must be after the last record
+abbrev pub WrongRowsClause : (list : List ℕ) → Plan → (last : Moment) (ws : List ℕ) → Bool → Type 0
+WrongRowsClause list plan last ws o =
+    o ≡ wrongRows (ruleFor list plan) (plan .m) (entryFor last) (pastIn (plan .m) ws)

@@ -2,3 +2,4 @@
 pub mod Steps
 pub mod Walks
 pub mod Endings
+pub mod Shapes

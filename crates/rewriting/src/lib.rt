@@ -1,4 +1,4 @@
-// One record's rewriting on a lent area: a row by kind, and the loops over a rule's records.
+// One record's rewriting on a lent area: a row by kind, the loops over a rule's records, and which rows are wrong.
 mod derived;
 pub mod ending;
 mod form;
@@ -8,5 +8,6 @@ mod past;
 pub mod rewrite;
 mod row;
 pub mod rule;
+pub mod shape;
 pub mod step;
 pub mod walk;

@@ -1,22 +1,19 @@
 -- What each way through check 12 finds.
 -- Assumes nothing.
 use mathlib.Core.Path.{_≡_, ap, sym, _∙_}
-use mathlib.Core.Bool.{Bool, true, false, not}
+use mathlib.Core.Bool.{Bool, true, false}
 use mathlib.Core.List.{List}
-use Prim.Native.Nat.{ℕ, _+_, _*_, _%_, _^_, _≤_, _<_, min}
+use Prim.Native.Nat.{ℕ, _*_, _%_, _^_, _<_, min}
 use native.Mathlib.Nat.{le-refl}
 use native.Mathlib.Omega.{arith}
-use borrow.Author.Tests.{not-false}
 use lib.Dec.{leb}
 use lib.ListN.{length}
-use Rattle.ground.proofs.Folds.{none-at}
 use Rattle.ground.proofs.Bits.{one-shl}
-use Rattle.forms.specs.Words.{fits}
-use Rattle.forms.specs.Area.{rowAt}
 use Rattle.meaning.specs.Rule.{parameters}
 use Rattle.rewriting.specs.Decode.{ruleIn}
 use Rattle.rewriting.specs.Known.{pastIn}
 use Rattle.rewriting.specs.Plans.{Sound}
+use Rattle.rewriting.specs.Shape.{bitsAbove, notZeroFrom, wrongRows}
 use Rattle.rewriting.proofs.Counting.{counts-all}
 use Rattle.watcher.specs.declared.state.Watcher.{Watcher}
 use Rattle.watcher.specs.declared.state.Phase.{Phase}
@@ -24,9 +21,8 @@ use Rattle.watcher.specs.declared.state.Phase.the-variants.{Fresh, Runni
 use Rattle.watcher.specs.declared.state.Verdict.{Verdict}
 use Rattle.watcher.specs.Limits.{mostParameters, listBytes}
 use Rattle.watcher.specs.Numbers.{stageOf}
-use Rattle.watcher.specs.State.{ruleOf, parametersOf, startRefuses, notZerosBehind, signalsAbove, bitsAbove}
-use Rattle.watcher.specs.State.{notZeroFrom, wrongRows, wrongInPhase, brokenState}
-use Rattle.watcher.specs.inside.Shapes.{Fitting}
+use Rattle.watcher.specs.State.{ruleOf, parametersOf, startRefuses, notZerosBehind, signalsAbove}
+use Rattle.watcher.specs.State.{wrongInPhase, brokenState}
 use Rattle.watcher.proofs.HeldLaws.{held-some, held-most, held-kinds, held-few}
 
 -- the bits of a running signal word, by the phase
@@ -46,7 +42,7 @@ module _ (signals : ℕ) (p : Phase) where
 
 -- the rows, by the phase
 module _ (w : Watcher) (ws : List ℕ) where
-  pub phase-fresh : (r : Bool) → w .phase ≡ Fresh → r ≡ notZeroFrom 0 ws
+  pub phase-fresh : (r : Bool) → w .phase ≡ Fresh → r ≡ notZeroFrom mostParameters 0 ws
       → r ≡ wrongInPhase w ws (stageOf (w .phase))
   unfolding wrongInPhase stageOf
   phase-fresh r e q = rw e q
@@ -63,12 +59,7 @@ module _ (w : Watcher) (ws : List ℕ) where
   unfolding wrongInPhase stageOf
   phase-closed v e = rw e
 
--- what the rows' check asks for
-pub fitting : (m : ℕ) (ws : List ℕ) → m ≤ mostParameters → bitsAbove m ws ≡ false → Fitting m ws
-unfolding bitsAbove
-fitting m ws few e j h =
-    not-false _ (none-at (mostParameters + 1) (λ i. not (fits m (rowAt ws i))) e j (omega arith))
-
+-- what the check of the rows asks for
 pub sound : (w : Watcher) (m : ℕ) → length (w .rule) ≡ listBytes → startRefuses w ≡ false → m ≡ parametersOf w
     → Sound (w .rule) (record { records = w .records; m = m; places = mostParameters })
 unfolding parametersOf ruleOf
@@ -105,16 +96,16 @@ module _ (w : Watcher) (ws : List ℕ) where
       broken-signals c = rw (a, b, c)
 
       module _ (c : signalsAbove (w .signals) (stageOf (w .phase)) ≡ false) (m : ℕ) (own : m ≡ parametersOf w) where
-        pub broken-bits : bitsAbove m ws ≡ true → true ≡ brokenState w ws
+        pub broken-bits : bitsAbove mostParameters m ws ≡ true → true ≡ brokenState w ws
         unfolding brokenState
         broken-bits d = rw (a, b, c, ← own, d)
 
-        module _ (d : bitsAbove m ws ≡ false) where
-          pub broken-unused : notZeroFrom m ws ≡ true → true ≡ brokenState w ws
+        module _ (d : bitsAbove mostParameters m ws ≡ false) where
+          pub broken-unused : notZeroFrom mostParameters m ws ≡ true → true ≡ brokenState w ws
           unfolding brokenState
           broken-unused e = rw (a, b, c, ← own, d, e)
 
-          pub broken-phase : (r : Bool) → notZeroFrom m ws ≡ false → r ≡ wrongInPhase w ws (stageOf (w .phase))
+          pub broken-phase : (r : Bool) → notZeroFrom mostParameters m ws ≡ false → r ≡ wrongInPhase w ws (stageOf (w .phase))
               → r ≡ brokenState w ws
           unfolding brokenState
           broken-phase r e f = rw (a, b, c, ← own, d, e) f

@@ -7,8 +7,6 @@ pub mod Decoded
 pub mod Checking
 pub mod Refusing
 pub mod HeldLaws
-pub mod ShapeLaws
-pub mod RecordRows
 pub mod Breaking
 pub mod Horizons
 pub mod Testing

@@ -1,4 +1,3 @@
 -- What the functions inside the crate say. Nobody outside has to believe it.
-pub mod Shapes
 pub mod Turns
 pub mod Horizons

@@ -1,10 +1,8 @@
 -- `shape::wrong_in_phase` goes by the phase.
 -- Assumes nothing.
 use mathlib.Core.Path.{sym}
-use native.Mathlib.Omega.{arith}
 use borrow.Author.Needs.{needs}
-use Rattle.watcher.proofs.HeldLaws.{held-few}
-use Rattle.watcher.proofs.Breaking.{fitting, sound, phase-fresh, phase-running, phase-closed}
+use Rattle.watcher.proofs.Breaking.{sound, phase-fresh, phase-running, phase-closed}
 use Rattle.watcher.proofs.shape.wrong_in_phase.Statement.{statement}
 use Rattle.watcher.proofs.shape.wrong_in_phase.Tie as tie
 
@@ -24,10 +22,7 @@ wrong-rows-requires : tie.Need-wrong-rows-requires
 wrong-rows-requires c κs =
     let q = c .before .before .before .before .before .before in
     let long = sym (slice-aggregate-wrong-rows c) in
-    let few = held-few (q .args .watcher) (q .pre .0) long in (
-      sound (q .args .watcher) _ long (q .pre .0) (q .pre .1),
-      fitting _ _ (omega (arith, few, q .pre .1)) (q .pre .2),
-    )
+    (sound (q .args .watcher) _ long (q .pre .0) (q .pre .1), q .pre .2)
 
 enum-told-2 : tie.Need-enum-told-2
 enum-told-2 c = search needs

@@ -27,19 +27,18 @@ use Rattle.forms.specs.Area.{rowAt, formIn}
 use Rattle.forms.proofs.Packing.{pack-unpack}
 use Rattle.meaning.specs.Rule.{Node, nodeAt, count, firstOf, Entry}
 use Rattle.meaning.proofs.Blocks.{firstOf-fits}
 use Rattle.rewriting.specs.declared.step.Moment.{Moment}
 use Rattle.rewriting.specs.declared.step.Plan.{Plan}
 use Rattle.rewriting.specs.declared.step.Record.{Record}
 use Rattle.rewriting.specs.Decode.{byteOf, nodeOf, nodeIn, nodeFor}
 use Rattle.rewriting.specs.Known.{formAt, pastIn}
 use Rattle.rewriting.specs.Plans.{Sound, ruleFor, entryFor}
 use Rattle.rewriting.proofs.Nodes.{kind-quiet, kind-future, kind-past}
 use Rattle.rewriting.proofs.Rules.{length-ruleIn, node-in}
-use Rattle.watcher.specs.declared.shape.Here.{Here}
-use Rattle.watcher.specs.Limits.{mostParameters}
-use Rattle.watcher.specs.State.{looksForward, forward, wrongRow, wrongRows}
-use Rattle.watcher.specs.inside.Shapes.{Before, Tells, Placed, Fitting, widened, wrongRecord}
-use Rattle.watcher.specs.inside.Shapes.{RowWrong, RecordWrong}
+use Rattle.rewriting.specs.declared.shape.Here.{Here}
+use Rattle.rewriting.specs.Shape.{looksForward, forward, wrongRow, wrongAt, wrongRows}
+use Rattle.rewriting.specs.inside.Shapes.{Before, Tells, Placed, Fitting, widened}
+use Rattle.rewriting.specs.inside.Shapes.{RowWrong, RecordWrong}
 
 -- a row that fits is that of its form
 pub row-is : (m : ℕ) (row : List ℕ) → length row ≡ 64 → ((i : ℕ) → Fits w64 (getD row i 0)) → fits m row ≡ true
@@ -124,8 +123,8 @@ module _ (here : Here) (m : ℕ) (placed : Placed m here) where
   kept : looksForward (nodeFor (here .record)) ≡ false → here .allowed ≡ widened here
   unfolding widened
   kept e =
-      same-bits mostParameters (here .allowed) _ (placed .bits) (ofBits-lt mostParameters _)
-      (λ p h. sym (bit-ofBits mostParameters _ p h ∙ rw e (or-false (bit (here .allowed) p))))
+      same-bits 12 (here .allowed) _ (placed .bits) (ofBits-lt 12 _)
+      (λ p h. sym (bit-ofBits 12 _ p h ∙ rw e (or-false (bit (here .allowed) p))))
 
   pub widen-before : here .record .kind < 6 → here .allowed ≡ widened here
   widen-before h = kept (forward-not (here .record) (placed .kind) h)
@@ -141,16 +140,16 @@ module _ (here : Here) (m : ℕ) (placed : Placed m here) where
       ap (bitOr (here .allowed))
       (ap (λ x. ((x - 1) * 2 ^ here .first) % 2 ^ 64) (one-shl (here .count) (omega arith))
       ∙ shl-exact (here .count) (here .first) 64 less (omega arith))
-      ∙ same-bits mostParameters (bitOr (here .allowed) own) _
-      (or-lt mostParameters (here .allowed) own (placed .bits)
+      ∙ same-bits 12 (bitOr (here .allowed) own) _
+      (or-lt 12 (here .allowed) own (placed .bits)
       (lt-of-lt-of-le (shl-lt (here .count) (here .first) less)
-      (pow-mono {i = here .count + here .first} {j = mostParameters} (omega arith))))
-      (ofBits-lt mostParameters _)
+      (pow-mono {i = here .count + here .first} {j = 12} (omega arith))))
+      (ofBits-lt 12 _)
       (λ p u.
       bit-or (here .allowed) own p ∙ ap (λ b. bit (here .allowed) p || b) (own-bits (here .first) (here .count) p)
-      ∙ sym (bit-ofBits mostParameters _ p u ∙ rw looks))
+      ∙ sym (bit-ofBits 12 _ p u ∙ rw looks))
     where
-      within : here .first + here .count ≤ mostParameters
+      within : here .first + here .count ≤ 12
       within = omega (arith, placed .few, placed .within)
 
       own : ℕ
@@ -174,17 +173,17 @@ before-suc rule k here t =
     record {
       starts = ap₂ _+_ (t .before .starts) (t .counts);
       allows =
-          same-bits mostParameters _ _ (ofBits-lt mostParameters _) (ofBits-lt mostParameters _)
+          same-bits 12 _ _ (ofBits-lt 12 _) (ofBits-lt 12 _)
           (λ p h.
-          bit-ofBits mostParameters _ p h
+          bit-ofBits 12 _ p h
           ∙ rw (
             t .node,
             t .before .starts,
             t .counts,
             t .before .allows,
-            bit-ofBits mostParameters (forward rule k) p h,
+            bit-ofBits 12 (forward rule k) p h,
           )
-          (sym (bit-ofBits mostParameters _ p h)));
+          (sym (bit-ofBits 12 _ p h)));
     }
 
 pub before-next : (rule : List Node) (k : ℕ) (here : Here) (allowed : ℕ) → Tells rule k here
@@ -212,23 +211,23 @@ module _ (list : List ℕ) (plan : Plan) where
         within =
             omega (arith, t .before .starts, t .counts, sound .own, firstOf-fits (ruleFor list plan) (suc k));
         kind = subst (λ x. 1 ≤ x) (sym kind) (sound .kinds k h);
-        bits = subst (λ x. x < 2 ^ mostParameters) (sym (t .before .allows)) (ofBits-lt mostParameters _);
+        bits = subst (λ x. x < 2 ^ 12) (sym (t .before .allows)) (ofBits-lt 12 _);
       }
 
   -- a wrong record is found, or there is none
   module _ (e : Entry) (past : List (Form (plan .m))) where
     pub rows-found : (k : ℕ) (r : Bool) → k < plan .records
-        → r ≡ wrongRecord (ruleFor list plan) (plan .m) e past k → r ≡ true
+        → r ≡ wrongAt (ruleFor list plan) (plan .m) e past k → r ≡ true
         → true ≡ wrongRows (ruleFor list plan) (plan .m) e past
     unfolding wrongRows
     rows-found k r h q t =
-        sym (some-at (length (ruleFor list plan)) (wrongRecord (ruleFor list plan) (plan .m) e past) k
+        sym (some-at (length (ruleFor list plan)) (wrongAt (ruleFor list plan) (plan .m) e past) k
         (subst (λ n. k < n) (sym (length-ruleIn list (plan .records))) h) (sym q ∙ t))
 
     pub rows-none : (k : ℕ) → plan .records ≤ k
-        → ((j : ℕ) → j < k → wrongRecord (ruleFor list plan) (plan .m) e past j ≡ false)
+        → ((j : ℕ) → j < k → wrongAt (ruleFor list plan) (plan .m) e past j ≡ false)
         → false ≡ wrongRows (ruleFor list plan) (plan .m) e past
     unfolding wrongRows
     rows-none k h all =
-        sym (some-none (length (ruleFor list plan)) (wrongRecord (ruleFor list plan) (plan .m) e past)
+        sym (some-none (length (ruleFor list plan)) (wrongAt (ruleFor list plan) (plan .m) e past)
         (λ j l. all j (omega (arith, length-ruleIn list (plan .records)))))

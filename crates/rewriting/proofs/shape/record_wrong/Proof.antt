@@ -5,9 +5,9 @@ use Prim.Native.Nat.{_-_, _≤_}
 use native.Mathlib.Omega.{arith}
 use borrow.Author.Count.{below-none}
 use borrow.Author.Needs.{needs}
-use Rattle.watcher.proofs.RecordRows.{RightTo, row-fits, shift-wrong, shift-right, shifts-right}
-use Rattle.watcher.proofs.shape.record_wrong.Statement.{statement}
-use Rattle.watcher.proofs.shape.record_wrong.Tie as tie
+use Rattle.rewriting.proofs.RecordRows.{RightTo, row-fits, shift-wrong, shift-right, shifts-right}
+use Rattle.rewriting.proofs.shape.record_wrong.Statement.{statement}
+use Rattle.rewriting.proofs.shape.record_wrong.Tie as tie
 
 abbrev Inv-loop : tie.InvT-loop
 Inv-loop here m last area n₀ n-end n = (n ≤ n-end) × (n-end ≡ here .count) × RightTo here m last area n

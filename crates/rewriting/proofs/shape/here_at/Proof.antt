@@ -1,10 +1,10 @@
 -- `shape::here_at` reads the record's bytes and counts its parameters.
 -- Assumes nothing.
 use borrow.Author.Needs.{needs}
-use Rattle.watcher.proofs.RecordRows.{tells, placed}
+use Rattle.rewriting.proofs.RecordRows.{tells, placed}
 use Rattle.rewriting.proofs.Rules.{record-node, record-kind}
-use Rattle.watcher.proofs.shape.here_at.Statement.{statement}
-use Rattle.watcher.proofs.shape.here_at.Tie as tie
+use Rattle.rewriting.proofs.shape.here_at.Statement.{statement}
+use Rattle.rewriting.proofs.shape.here_at.Tie as tie
 
 record-at-requires : tie.Need-record-at-requires
 record-at-requires c κs = search needs
@@ -16,7 +16,7 @@ returns : tie.Need-returns
 returns c =
     let c₃ = c .before .before .before in
     let q = c₃ in
-    let list = q .args .rule .now in
+    let list = q .args .list .now in
     let t =
     tells list (q .args .plan) _ _ (q .pre .1) (record-node _ _ _ (c .before .record-at .ensures))
     (c .count-at .ensures .0)

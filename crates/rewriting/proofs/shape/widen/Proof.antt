@@ -2,9 +2,9 @@
 -- Assumes nothing.
 use native.Mathlib.Omega.{arith}
 use borrow.Author.Needs.{needs}
-use Rattle.watcher.proofs.RecordRows.{one-some, widen-before, widen-after, widen-own}
-use Rattle.watcher.proofs.shape.widen.Statement.{statement}
-use Rattle.watcher.proofs.shape.widen.Tie as tie
+use Rattle.rewriting.proofs.RecordRows.{one-some, widen-before, widen-after, widen-own}
+use Rattle.rewriting.proofs.shape.widen.Statement.{statement}
+use Rattle.rewriting.proofs.shape.widen.Tie as tie
 
 shl-own : tie.Need-shl-own
 shl-own c = search needs

@@ -1,9 +1,9 @@
 -- `shape::row_not_zero` reads the row only from the place on.
 -- Assumes nothing.
 use borrow.Author.Needs.{needs}
-use Rattle.watcher.proofs.ShapeLaws.{zero-tested, zero-untested}
-use Rattle.watcher.proofs.shape.row_not_zero.Statement.{statement}
-use Rattle.watcher.proofs.shape.row_not_zero.Tie as tie
+use Rattle.rewriting.proofs.TidyRows.{zero-tested, zero-untested}
+use Rattle.rewriting.proofs.shape.row_not_zero.Statement.{statement}
+use Rattle.rewriting.proofs.shape.row_not_zero.Tie as tie
 
 load-requires : tie.Need-load-requires
 load-requires c κs = search needs

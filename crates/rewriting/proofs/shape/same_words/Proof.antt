@@ -8,8 +8,8 @@ use lib.ListN.{getD}
 use native.Mathlib.Omega.{arith}
 use borrow.Author.Needs.{needs}
 use Rattle.ground.proofs.Folds.{every-all, every-not}
-use Rattle.watcher.proofs.shape.same_words.Statement.{statement}
-use Rattle.watcher.proofs.shape.same_words.Tie as tie
+use Rattle.rewriting.proofs.shape.same_words.Statement.{statement}
+use Rattle.rewriting.proofs.shape.same_words.Tie as tie
 
 abbrev Inv-loop : tie.InvT-loop
 Inv-loop a b i₀ i = (i ≤ 64) × ((j : ℕ) → j < i → getD a j 0 ≡ getD b j 0)

@@ -4,8 +4,8 @@ use mathlib.Core.Path.{ap, _∙_}
 use mathlib.Core.Bool.{not}
 use borrow.Author.Needs.{needs}
 use Rattle.forms.specs.Words.{fits}
-use Rattle.watcher.proofs.shape.row_above.Statement.{statement}
-use Rattle.watcher.proofs.shape.row_above.Tie as tie
+use Rattle.rewriting.proofs.shape.row_above.Statement.{statement}
+use Rattle.rewriting.proofs.shape.row_above.Tie as tie
 
 load-requires : tie.Need-load-requires
 load-requires c κs = search needs

@@ -2,48 +2,32 @@
 -- Assumes nothing.
 use mathlib.Core.Path.{_≡_, refl, sym, ap, _∙_}
 use mathlib.Core.Bool.{Bool, true, false, not, _&&_, _||_, true≢false}
+use mathlib.Core.Logic.{⊎-elim}
 use mathlib.Core.List.{List}
 use Prim.Native.Nat.{ℕ, _+_, _^_, _≤_, _<_}
 use native.Mathlib.Omega.{arith}
-use borrow.Author.Tests.{le-leb, lt-leb, eq-eqb, ne-eqb, eqb-true}
+use borrow.Author.Tests.{eq-eqb, ne-eqb, eqb-true}
 use lib.Bits.{bitOr, or-lt}
-use lib.Dec.{eqb, leb}
-use lib.ListN.{length, getD, replicate}
+use lib.Dec.{eqb}
+use lib.ListN.{length, getD}
 use lib.Seq.{ext-getD}
 use Rattle.ground.specs.Fold.{every, some}
 use Rattle.ground.specs.Bits.{bit, ofBits}
-use Rattle.ground.proofs.Folds.{fold-cong, every-all, every-at, some-none, none-at}
-use Rattle.ground.proofs.Bits.{bit-or}
-use Rattle.ground.proofs.Numbers.{same-bits, ofBits-lt, bit-ofBits, zero-at}
-use Rattle.forms.specs.Form.{Form, constant, parameter, names, same}
+use Rattle.ground.proofs.Folds.{fold-cong, less-or-not, every-all, every-at, some-none, none-at}
+use Rattle.ground.proofs.Bits.{bit-or, bit-above}
+use Rattle.ground.proofs.Numbers.{same-bits, ofBits-lt, bit-ofBits}
+use Rattle.forms.specs.Form.{Form, constant, parameter, has, names, same}
 use Rattle.forms.specs.Words.{pack, unpack}
 use Rattle.forms.proofs.Packing.{pack-words, pack-inj}
 use Rattle.forms.proofs.Reading.{same-refl, same-eq}
 use Rattle.meaning.specs.Rule.{Node, nodeAt, firstOf, holds}
 use Rattle.rewriting.specs.declared.step.Moment.{Moment}
 use Rattle.rewriting.specs.Decode.{nodeOf, nodeFor}
 use Rattle.rewriting.specs.Plans.{entryFor}
 use Rattle.rewriting.proofs.Nodes.{kind-quiet, kind-future, kind-past}
-use Rattle.watcher.specs.declared.shape.Here.{Here}
-use Rattle.watcher.specs.Limits.{mostParameters}
-use Rattle.watcher.specs.State.{zeroRow, forward, namesOther, wrongRow}
-use Rattle.watcher.specs.inside.Shapes.{Tells}
-
--- the same words as those of a row of zeros
-pub zero-words-row : (row : List ℕ) (r : Bool) → r ≡ every 64 (λ i. eqb (getD row i 0) (getD (replicate 64 0) i 0))
-    → r ≡ zeroRow row
-unfolding zeroRow
-zero-words-row row r e =
-    e ∙ fold-cong _&&_ true 64 (λ i. eqb (getD row i 0) (getD (replicate 64 0) i 0)) (λ i. eqb (getD row i 0) 0)
-    (λ i h. ap (eqb (getD row i 0)) (zero-at 64 i))
-
--- a row from some place on, and one before it
-pub zero-tested : (from j : ℕ) (row loaded : List ℕ) (z : Bool) → from ≤ j → loaded ≡ row → z ≡ zeroRow loaded
-    → not z ≡ (leb from j && not (zeroRow row))
-zero-tested from j row loaded z h e q = rw (le-leb from j h, q, e)
-
-pub zero-untested : (from j : ℕ) (b : Bool) → j < from → false ≡ (leb from j && b)
-zero-untested from j b h = rw (lt-leb from j h)
+use Rattle.rewriting.specs.declared.shape.Here.{Here}
+use Rattle.rewriting.specs.Shape.{forward, namesOther, wrongRow}
+use Rattle.rewriting.specs.inside.Shapes.{Tells}
 
 -- a number has a bit that another lacks exactly if it adds one
 other-bits : (n a b : ℕ) → a < 2 ^ n → b < 2 ^ n → not (eqb (bitOr a b) b) ≡ some n (λ p. bit a p && not (bit b p))
@@ -77,19 +61,34 @@ other-bits n a b ha hb = go (some n lacks) refl
         (λ p h. bit-or a b p ∙ inside (bit a p) (bit b p) (none-at n lacks e p h))))
         ∙ sym e
 
-pub names-other : (m : ℕ) (f : Form m) (named allowed : ℕ) → allowed < 2 ^ mostParameters
-    → named ≡ ofBits mostParameters (names m f)
-    → not (eqb (bitOr named allowed) allowed) ≡ some mostParameters (λ p. names m f p && not (bit allowed p))
-names-other m f named allowed h e =
-    let named-by = ofBits-lt mostParameters (names m f) in
+-- a form over m parameters names none from m on
+pub names-low : (m : ℕ) (f : Form m) (p : ℕ) → m ≤ p → names m f p ≡ false
+unfolding names
+names-low m f p h = some-none (2 ^ m) _ (λ k l. ap (λ b. b && has m f (bit k)) (bit-above k m p l h))
+
+-- a test that fails from m on passes below n exactly if it passes below m
+some-low : (m n : ℕ) (g : ℕ → Bool) → m ≤ n → ((p : ℕ) → m ≤ p → g p ≡ false) → some n g ≡ some m g
+some-low m n g h out = go (some m g) (some n g) refl refl
+  where
+    go : (s t : Bool) → some m g ≡ s → some n g ≡ t → some n g ≡ some m g
+    go false t e q = some-none n g (λ p l. ⊎-elim (none-at m g e p) (out p) (less-or-not p m)) ∙ sym e
+    go true true e q = q ∙ sym e
+    go true false e q =
+        absurd (true≢false (sym e ∙ some-none m g (λ p l. none-at n g q p (let u : p < n = omega arith in u))))
+
+pub names-other : (m : ℕ) (f : Form m) (named allowed : ℕ) → m ≤ 12 → allowed < 2 ^ 12 → named ≡ ofBits 12 (names m f)
+    → not (eqb (bitOr named allowed) allowed) ≡ some m (λ p. names m f p && not (bit allowed p))
+names-other m f named allowed few h e =
     ap (λ x. not (eqb (bitOr x allowed) allowed)) e
-    ∙ other-bits mostParameters (ofBits mostParameters (names m f)) allowed named-by h
-    ∙ fold-cong _||_ false mostParameters (λ p. bit (ofBits mostParameters (names m f)) p && not (bit allowed p))
+    ∙ other-bits 12 (ofBits 12 (names m f)) allowed (ofBits-lt 12 (names m f)) h
+    ∙ fold-cong _||_ false 12 (λ p. bit (ofBits 12 (names m f)) p && not (bit allowed p))
     (λ p. names m f p && not (bit allowed p))
-    (λ p l. ap (λ b. b && not (bit allowed p)) (bit-ofBits mostParameters (names m f) p l))
+    (λ p l. ap (λ b. b && not (bit allowed p)) (bit-ofBits 12 (names m f) p l))
+    ∙ some-low m 12 (λ p. names m f p && not (bit allowed p)) few
+    (λ p l. ap (λ b. b && not (bit allowed p)) (names-low m f p l))
 
 -- rows with the same words are those of the same form
-pub same-words : (m : ℕ) (f g : Form m) → m ≤ mostParameters → (a b : List ℕ) → a ≡ pack m f → b ≡ pack m g
+pub same-words : (m : ℕ) (f g : Form m) → m ≤ 12 → (a b : List ℕ) → a ≡ pack m f → b ≡ pack m g
     → every 64 (λ i. eqb (getD a i 0) (getD b i 0)) ≡ same m f g
 same-words m f g few a b ea eb = go (same m f g) refl
   where
@@ -119,7 +118,7 @@ same-words m f g few a b ea eb = go (same m f g) refl
     go false e = differ (every 64 words) refl e ∙ sym e
 
 -- the row of a record's shift, by the record's kind
-module _ (here : Here) (n m : ℕ) (last : Moment) (row : List ℕ) (few : m ≤ mostParameters)
+module _ (here : Here) (n m : ℕ) (last : Moment) (row : List ℕ) (few : m ≤ 12)
     (is : row ≡ pack m (unpack m row)) (rule : List Node) (k : ℕ) (t : Tells rule k here) where
   abbrev wrong : Node → Bool
   wrong d = wrongRow rule m (entryFor last) k n d (unpack m row)
@@ -157,15 +156,15 @@ module _ (here : Here) (n m : ℕ) (last : Moment) (row : List ℕ) (few : m ≤
           ∙ ap (λ x. not (same m (unpack m row) (parameter m (x + n)))) (t .before .starts)
 
   pub wrong-names : (r : Bool) → 8 ≤ here .record .kind
-      → r ≡ some mostParameters (λ p. names m (unpack m row) p && not (bit (here .allowed) p))
+      → r ≡ some m (λ p. names m (unpack m row) p && not (bit (here .allowed) p))
       → r ≡ wrong (nodeAt rule k)
   unfolding wrongRow nodeFor namesOther
   wrong-names r a q = kind-past (λ d. r ≡ wrong d) _ _ _ _ own own (here .record .kind) a ∙ ap wrong (t .node)
     where
-      own : r ≡ some mostParameters (λ p. names m (unpack m row) p && not (forward rule k p))
+      own : r ≡ some m (λ p. names m (unpack m row) p && not (forward rule k p))
       own =
-          q ∙ fold-cong _||_ false mostParameters (λ p. names m (unpack m row) p && not (bit (here .allowed) p))
+          q ∙ fold-cong _||_ false m (λ p. names m (unpack m row) p && not (bit (here .allowed) p))
           (λ p. names m (unpack m row) p && not (forward rule k p))
           (λ p l.
           ap (λ b. names m (unpack m row) p && not b)
-          (ap (λ x. bit x p) (t .before .allows) ∙ bit-ofBits mostParameters (forward rule k) p l))
+          (ap (λ x. bit x p) (t .before .allows) ∙ bit-ofBits 12 (forward rule k) p (omega arith)))

@@ -1,9 +1,9 @@
 -- `shape::zero_row` compares the row with zeros.
 -- Assumes nothing.
 use borrow.Author.Needs.{needs}
-use Rattle.watcher.proofs.ShapeLaws.{zero-words-row}
-use Rattle.watcher.proofs.shape.zero_row.Statement.{statement}
-use Rattle.watcher.proofs.shape.zero_row.Tie as tie
+use Rattle.rewriting.proofs.TidyRows.{zero-words-row}
+use Rattle.rewriting.proofs.shape.zero_row.Statement.{statement}
+use Rattle.rewriting.proofs.shape.zero_row.Tie as tie
 
 same-words-requires : tie.Need-same-words-requires
 same-words-requires c κs = search needs

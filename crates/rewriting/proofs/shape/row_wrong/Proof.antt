@@ -1,10 +1,10 @@
 -- `shape::row_wrong` goes by the kind of the record.
 -- Assumes nothing.
 use borrow.Author.Needs.{needs}
-use Rattle.watcher.proofs.ShapeLaws.{wrong-signal, wrong-quiet, wrong-self, wrong-names}
-use Rattle.watcher.proofs.RecordRows.{row-is}
-use Rattle.watcher.proofs.shape.row_wrong.Statement.{statement}
-use Rattle.watcher.proofs.shape.row_wrong.Tie as tie
+use Rattle.rewriting.proofs.ShapeLaws.{wrong-signal, wrong-quiet, wrong-self, wrong-names}
+use Rattle.rewriting.proofs.RecordRows.{row-is}
+use Rattle.rewriting.proofs.shape.row_wrong.Statement.{statement}
+use Rattle.rewriting.proofs.shape.row_wrong.Tie as tie
 
 signal-requires : tie.Need-signal-requires
 signal-requires c κs = search needs

@@ -9,17 +9,16 @@ use native.Mathlib.Omega.{arith}
 use borrow.Author.Needs.{needs}
 use Rattle.ground.proofs.Folds.{some-at, some-none}
 use Rattle.forms.specs.Area.{rowAt}
-use Rattle.watcher.specs.Limits.{mostParameters}
-use Rattle.watcher.specs.State.{zeroRow, notZeroFrom}
-use Rattle.watcher.proofs.shape.not_zero_from.Statement.{statement}
-use Rattle.watcher.proofs.shape.not_zero_from.Tie as tie
+use Rattle.rewriting.specs.Shape.{zeroRow, notZeroFrom}
+use Rattle.rewriting.proofs.shape.not_zero_from.Statement.{statement}
+use Rattle.rewriting.proofs.shape.not_zero_from.Tie as tie
 
 abbrev Inv-loop : tie.InvT-loop
-Inv-loop from area j₀ j =
-    (j ≤ mostParameters) × ((i : ℕ) → i < j → (leb from i && not (zeroRow (rowAt area i))) ≡ false)
+Inv-loop places from area j₀ j =
+    (j ≤ places) × ((i : ℕ) → i < j → (leb from i && not (zeroRow (rowAt area i))) ≡ false)
 
 abbrev μ-loop : tie.MeasureT-loop
-μ-loop from area j₀ j = mostParameters - j
+μ-loop places from area j₀ j = places - j
 
 loop-holds : tie.Need-loop-holds Inv-loop μ-loop
 loop-holds c = (search needs, below-none _)
@@ -30,7 +29,7 @@ row-not-zero-requires c κs = search needs
 returns : tie.Need-returns Inv-loop μ-loop
 unfolding notZeroFrom
 returns c =
-    sym (some-at mostParameters _ _ (c .before .before .loop-test .taken)
+    sym (some-at _ _ _ (c .before .before .loop-test .taken)
     (sym (c .before .row-not-zero .ensures) ∙ c .if1 .taken))
 
 add-j : tie.Need-add-j Inv-loop μ-loop
@@ -47,7 +46,7 @@ loop-again c = (
 
 returns-2 : tie.Need-returns-2 Inv-loop μ-loop
 unfolding notZeroFrom
-returns-2 c = sym (some-none mostParameters _ (λ j h. c .before .loop .inv .1 j (omega arith)))
+returns-2 c = sym (some-none _ _ (λ j h. c .before .loop .inv .1 j (omega arith)))
 
 pub not-zero-from-spec : {M : Type 1} → statement M
 not-zero-from-spec =

@@ -2,23 +2,21 @@
 -- Assumes nothing.
 use mathlib.Core.Path.{_≡_, sym, _∙_}
 use mathlib.Core.Bool.{false, not}
-use Prim.Native.Nat.{ℕ, _+_, _-_, _≤_, _<_}
+use Prim.Native.Nat.{ℕ, _-_, _≤_, _<_}
 use borrow.Author.Count.{below-none, below-more}
 use native.Mathlib.Omega.{arith}
 use borrow.Author.Needs.{needs}
-use Rattle.ground.proofs.Folds.{some-at, some-none}
 use Rattle.forms.specs.Words.{fits}
 use Rattle.forms.specs.Area.{rowAt}
-use Rattle.watcher.specs.Limits.{mostParameters}
-use Rattle.watcher.specs.State.{bitsAbove}
-use Rattle.watcher.proofs.shape.bits_above.Statement.{statement}
-use Rattle.watcher.proofs.shape.bits_above.Tie as tie
+use Rattle.rewriting.proofs.TidyRows.{bits-found, bits-last}
+use Rattle.rewriting.proofs.shape.bits_above.Statement.{statement}
+use Rattle.rewriting.proofs.shape.bits_above.Tie as tie
 
 abbrev Inv-loop : tie.InvT-loop
-Inv-loop m area j₀ j = (j ≤ mostParameters + 1) × ((i : ℕ) → i < j → not (fits m (rowAt area i)) ≡ false)
+Inv-loop places m area j₀ j = (j ≤ places) × ((i : ℕ) → i < j → not (fits m (rowAt area i)) ≡ false)
 
 abbrev μ-loop : tie.MeasureT-loop
-μ-loop m area j₀ j = mostParameters + 1 - j
+μ-loop places m area j₀ j = places - j
 
 loop-holds : tie.Need-loop-holds Inv-loop μ-loop
 loop-holds c = (search needs, below-none _)
@@ -27,10 +25,8 @@ row-above-requires : tie.Need-row-above-requires Inv-loop μ-loop
 row-above-requires c κs = search needs
 
 returns : tie.Need-returns Inv-loop μ-loop
-unfolding bitsAbove
 returns c =
-    sym (some-at (mostParameters + 1) _ _ (omega (arith, c .before .before .loop-test .taken))
-    (sym (c .before .row-above .ensures) ∙ c .if1 .taken))
+    bits-found _ _ _ _ (c .before .before .loop-test .taken) (sym (c .before .row-above .ensures) ∙ c .if1 .taken)
 
 add-j : tie.Need-add-j Inv-loop μ-loop
 add-j c = search needs
@@ -44,11 +40,14 @@ loop-again c = (
   below-more _ _ (c .before .before .before .loop .inv .1) (sym (c .before .row-above .ensures) ∙ c .if1 .left),
 )
 
+row-above-requires-2 : tie.Need-row-above-requires-2 Inv-loop μ-loop
+row-above-requires-2 c κs = search needs
+
 returns-2 : tie.Need-returns-2 Inv-loop μ-loop
-unfolding bitsAbove
-returns-2 c = sym (some-none (mostParameters + 1) _ (λ j h. c .before .loop .inv .1 j (omega arith)))
+returns-2 c = bits-last _ _ _ _ (λ j h. c .before .before .loop .inv .1 j (omega arith)) (c .row-above2 .ensures)
 
 pub bits-above-spec : {M : Type 1} → statement M
 bits-above-spec =
     tie.close
-    (tie.spec Inv-loop μ-loop loop-holds row-above-requires returns add-j loop-less loop-again returns-2)
+    (tie.spec Inv-loop μ-loop loop-holds row-above-requires returns add-j loop-less loop-again row-above-requires-2
+    returns-2)
