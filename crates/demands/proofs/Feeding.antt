@@ -1,11 +1,10 @@
 -- What feeding and closing do to a state and an area that the watcher made.
 -- Assumes nothing.
 use mathlib.Core.Path.{_≡_, refl, sym, ap, _∙_, subst}
-use mathlib.Core.Bool.{Bool, true, false, not}
+use mathlib.Core.Bool.{Bool, true, false}
 use mathlib.Core.List.{List, []}
 use Prim.Native.Nat.{ℕ, _≤_}
-use lib.ListN.{length}
-use borrow.Author.Tests.{le-ltb, eq-eqb}
+use borrow.Author.Tests.{le-ltb}
 use Rattle.forms.specs.Form.{Form}
 use Rattle.meaning.specs.Rule.{Node, Entry, parameters}
 use Rattle.meaning.specs.Words.{Known, first, feed, close, valueIfLast, word}
@@ -21,7 +20,7 @@ use Rattle.watcher.specs.declared.state.Answer.the-variants as answer
 use Rattle.watcher.specs.declared.state.End.the-variants as end
 use Rattle.watcher.specs.declared.state.Fed.{Fed}
 use Rattle.watcher.specs.declared.state.Ended.{Ended}
-use Rattle.watcher.specs.Limits.{mostParameters, areaWords}
+use Rattle.watcher.specs.Limits.{mostParameters}
 use Rattle.watcher.specs.Rules.{recordsOf}
 use Rattle.watcher.specs.Records.{wrongRecord, timeOf, entryOf}
 use Rattle.watcher.specs.Lists.{firstRefusal}
@@ -34,6 +33,7 @@ use Rattle.watcher.specs.Calls.{freshState}
 use Rattle.demands.specs.Rewritten.{readRule, parametersIn, heldKnown, heldAfter}
 use Rattle.watcher.proofs.Decoded.{Accepted}
 use Rattle.watcher.proofs.Reports.{report-says}
+use Rattle.watcher.proofs.Testing.{area-right as long-right}
 use Rattle.rewriting.proofs.Placed.{length-areaOf, read-past, read-remainder}
 use Rattle.demands.proofs.Padding.{entry-padded}
 use Rattle.demands.proofs.OwnStates.{stateIn, list-short, rule-in, few-parameters, Lawful, fresh-fine}
@@ -83,10 +83,7 @@ refused-close w ws r e = ap (λ f. closeWith f w ws) e
 -- the area that is laid out has its words
 pub area-right : (m : ℕ) (past : List (Form m)) (remainder : Form m)
     → wrongArea (areaOf mostParameters m past remainder) ≡ false
-unfolding wrongArea
-area-right m past remainder =
-    ap not (eq-eqb (length (areaOf mostParameters m past remainder)) areaWords
-    (length-areaOf mostParameters m past remainder))
+area-right m past remainder = long-right _ (length-areaOf mostParameters m past remainder)
 
 -- what feeding and closing hand back, with the rule apart
 unfoldable fedBy : List Node → Watcher → Entry → List ℕ → Stage → Fed × List ℕ
