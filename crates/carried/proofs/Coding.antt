@@ -14,10 +14,9 @@ use Rattle.watcher.specs.declared.state.Answer.{Answer}
 use Rattle.watcher.specs.declared.state.Answer.the-variants as answer
 use Rattle.watcher.specs.declared.state.End.{End}
 use Rattle.watcher.specs.declared.state.End.the-variants as end
-use Rattle.watcher.specs.Numbers.{refusalNumber}
-use Rattle.demands.specs.Tables.{foundIn, foundAt, Carries}
-use Rattle.demands.specs.Demands.{Says}
-use Rattle.port.specs.Codes.{wordCode, answerCode, asAnswer, endCode}
+use Rattle.watcher.specs.Numbers.{refusalNumber, Says, foundIn, foundAt}
+use Rattle.demands.specs.Tables.{Carries}
+use Rattle.port.specs.Codes.{wordCode, toldOf, toldAt, toldCode, answerCode, endCode}
 use Rattle.port.proofs.Numbers.{number-low}
 
 -- words with the same code are the same
@@ -38,24 +37,24 @@ word-large Pending = omega arith
 
 -- a word's code says the word, and a word has its code
 pub code-says : (a : Answer) (w : Word) → answerCode a ≡ wordCode w → Says a w
-unfolding answerCode Says
+unfolding answerCode toldOf toldCode Says
 code-says (answer.Accepted report) w e = word-one (report .word) w e
 code-says (answer.Refused r) w e =
     let z : ⊥ = omega (arith, number-low r, word-large w) in absurd z
 
 pub says-code : (a : Answer) (w : Word) → Says a w → answerCode a ≡ wordCode w
-unfolding answerCode Says
+unfolding answerCode toldOf toldCode Says
 says-code (answer.Accepted report) w e = ap wordCode e
 says-code (answer.Refused r) w e = absurd e
 
 -- a refusal's code is its number
 pub carries-code : (a : Answer) (n : ℕ) → Carries (foundIn a) n → answerCode a ≡ n
-unfolding answerCode foundIn Carries
+unfolding answerCode toldOf toldCode foundIn Carries
 carries-code (answer.Accepted report) n c = absurd c
 carries-code (answer.Refused r) n c = c
 
 pub carries-end : (a : End) (n : ℕ) → Carries (foundAt a) n → endCode a ≡ n
-unfolding endCode asAnswer answerCode foundAt Carries
+unfolding endCode toldAt toldCode foundAt Carries
 carries-end (end.Closed v) n c = absurd c
 carries-end (end.Refused r) n c = c
 

@@ -7,15 +7,15 @@ use Rattle.watcher.specs.declared.state.Watcher.{Watcher}
 use Rattle.watcher.specs.declared.state.Found.{Found}
 use Rattle.watcher.specs.declared.state.Found.the-variants.{Fine, Refused}
 use Rattle.watcher.specs.Calls.{feedRefusal, feedWith, feedOf, closeRefusal, closeWith, closeOf}
+use Rattle.watcher.specs.Numbers.{foundIn, foundAt}
 use Rattle.demands.specs.Watching.{defined}
-use Rattle.demands.specs.Tables.{foundIn, foundAt}
 use Rattle.demands.specs.Tables as tables
 use Rattle.demands.specs.Demands.{Demands}
 use Rattle.demands.proofs.Following.{defined-meets}
 use Rattle.demands.proofs.Demanded.{demanded}
 use Rattle.port.specs.Layout.{written, stateIn}
-use Rattle.port.specs.Codes.{foundCode, answerCode, asAnswer}
-use Rattle.port.specs.Exports.{startedBytes, startBytes, keptUnless, answeredBytes, fedBytes, feedBytes, endedBytes}
+use Rattle.port.specs.Codes.{foundCode, toldOf, toldAt, toldCode}
+use Rattle.port.specs.Exports.{startedBytes, startBytes, keptUnless, toldBytes, fedBytes, feedBytes, endedBytes}
 use Rattle.port.specs.Exports.{closeBytes}
 use Rattle.port.proofs.Exported.{right-one, start-wrong, feed-wrong, close-wrong}
 use Rattle.port.proofs.Machines.{machine-in}
@@ -34,14 +34,14 @@ found-number (Refused r) n c = c
 fed-refused : (f : Found) (w : Watcher) (bytes piece ws : List ℕ) (n : ℕ)
     → tables.Carries (foundIn (feedWith f w piece ws .0 .answer)) n
     → fedBytes (feedWith f w piece ws) bytes ≡ (n, bytes, ws)
-unfolding feedWith fedBytes answeredBytes keptUnless answerCode foundIn tables.Carries
+unfolding feedWith fedBytes toldOf toldBytes keptUnless toldCode foundIn tables.Carries
 fed-refused Fine w bytes piece ws n c = absurd c
 fed-refused (Refused r) w bytes piece ws n c = ap (λ x. (x, bytes, ws)) c
 
 closed-refused : (f : Found) (w : Watcher) (bytes ws : List ℕ) (n : ℕ)
     → tables.Carries (foundAt (closeWith f w ws .0 .answer)) n
     → endedBytes (closeWith f w ws) bytes ≡ (n, bytes, ws)
-unfolding closeWith endedBytes asAnswer answeredBytes keptUnless answerCode foundAt tables.Carries
+unfolding closeWith endedBytes toldAt toldBytes keptUnless toldCode foundAt tables.Carries
 closed-refused Fine w bytes ws n c = absurd c
 closed-refused (Refused r) w bytes ws n c = ap (λ x. (x, bytes, ws)) c
 

@@ -16,19 +16,20 @@ use Rattle.watcher.specs.declared.state.Found.the-variants.{Fine}
 use Rattle.watcher.specs.Records.{timeOf}
 use Rattle.watcher.specs.Calls.{startOf, closeOf}
 use Rattle.watcher.specs.Machine.{MachineBytes, MachineWords}
-use Rattle.watcher.specs.Runs.{Held, pieces, decided}
+use Rattle.watcher.specs.Runs.{Held, pieces}
+use Rattle.watcher.specs.Numbers.{Says, decided}
 use Rattle.demands.specs.Watching.{defined, Call, feeding, closing, told, ending, handed, handedOn, reached}
 use Rattle.demands.specs.Watching.{MachineCall, MachineCalls, Begun}
 use Rattle.demands.specs.Logs.{Course, going, further, furtherBy, courseOf, lastTime, logOf}
 use Rattle.demands.specs.Rewritten.{readRule, heldIn}
-use Rattle.demands.specs.Demands.{Says, Demands, Decides}
+use Rattle.demands.specs.Demands.{Demands, Decides}
 use Rattle.demands.specs.Demands as demanded-by
 use Rattle.demands.specs.OwnWork.{OwnWork}
 use Rattle.demands.proofs.Following.{defined-meets}
 use Rattle.demands.proofs.Demanded.{demanded}
 use Rattle.demands.proofs.OwnWork.{own-work}
 use Rattle.demands.proofs.Logs.{further-parts}
-use Rattle.port.specs.Codes.{codesLength, wordCode, verdictCode, answerCode, asAnswer, endCode}
+use Rattle.port.specs.Codes.{codesLength, wordCode, verdictCode, toldAt, toldCode, answerCode, endCode}
 use Rattle.port.specs.Whole.{codesFor, fedFrom, closedAfter, runFrom, runOf}
 use Rattle.carried.specs.Exporting.{Exports, MeetsExports}
 use Rattle.carried.specs.Runs.{pieceAt, logTo, RunRefuses, RunReports, RunIsDemanded}
@@ -154,7 +155,7 @@ module _ (rule signals log ws codes : List ℕ) (br : MachineBytes rule) (bs : M
         ∙ ap (λ x. heldIn rule signals (further signals x closing)) c)
 
     run-reports : RunReports rule signals log outcome
-    unfolding further heldIn endCode asAnswer answerCode verdictCode
+    unfolding further heldIn endCode toldAt toldCode verdictCode
     run-reports =
         record {
           long = length-codes first (pieces log);
@@ -232,7 +233,7 @@ module _ (rule signals log ws codes : List ℕ) (br : MachineBytes rule) (bs : M
         past)
 
     run-decides : RunDecides rule signals log outcome
-    unfolding endCode asAnswer answerCode verdictCode
+    unfolding endCode toldAt toldCode verdictCode
     run-decides =
         record {
           holds =

@@ -11,8 +11,8 @@ use Rattle.watcher.specs.declared.state.Found.the-variants.{Fine, Refused}
 use Rattle.watcher.specs.Calls.{startOf, feedRefusal, feedWith, feedOf, closeRefusal, closeWith, closeOf, waitOf}
 use Rattle.watcher.specs.Machine.{MachineState}
 use Rattle.port.specs.Layout.{stateBytes, byteAt, written}
-use Rattle.port.specs.Codes.{foundCode, answerCode, asAnswer, endCode, horizonCode}
-use Rattle.port.specs.Exports.{startedBytes, startBytes, refusalBytes, keptUnless, answeredBytes, fedBytes}
+use Rattle.port.specs.Codes.{foundCode, toldOf, toldAt, answerCode, endCode, horizonCode}
+use Rattle.port.specs.Exports.{startedBytes, startBytes, refusalBytes, keptUnless, toldBytes, fedBytes}
 use Rattle.port.specs.Exports.{feedBytes, endedBytes, closeBytes, horizonBytes}
 use Rattle.port.proofs.ReadBack.{read-back}
 use Rattle.port.proofs.Exported.{right-one}
@@ -40,13 +40,13 @@ start-step rule signals bytes ws long =
 -- what feeding and closing write, by what they find
 fed-written : (f : Found) (w : Watcher) (piece ws : List ℕ)
     → fedBytes (feedWith f w piece ws) (written w) .1 ≡ written (feedWith f w piece ws .0 .next)
-unfolding feedWith fedBytes answeredBytes keptUnless
+unfolding feedWith fedBytes toldOf toldBytes keptUnless
 fed-written Fine w piece ws = refl
 fed-written (Refused r) w piece ws = refl
 
 closed-written : (f : Found) (w : Watcher) (ws : List ℕ)
     → endedBytes (closeWith f w ws) (written w) .1 ≡ written (closeWith f w ws .0 .next)
-unfolding closeWith endedBytes asAnswer answeredBytes keptUnless
+unfolding closeWith endedBytes toldAt toldBytes keptUnless
 closed-written Fine w ws = refl
 closed-written (Refused r) w ws = refl
 
@@ -60,7 +60,7 @@ module _ (w : Watcher) (m : MachineState w) (ws : List ℕ) where
   pub feed-step : (piece : List ℕ)
       → Carries (feedBytes (written w) piece ws) (answerCode (feedOf w piece ws .0 .answer))
       (feedOf w piece ws .0 .next) (feedOf w piece ws .1)
-  unfolding feedBytes fedBytes answeredBytes feedOf
+  unfolding feedBytes fedBytes toldBytes answerCode feedOf
   feed-step piece =
       subst
       (λ o. Carries o (answerCode (feedOf w piece ws .0 .answer)) (feedOf w piece ws .0 .next) (feedOf w piece ws .1))
@@ -70,7 +70,7 @@ module _ (w : Watcher) (m : MachineState w) (ws : List ℕ) where
 
   pub close-step : Carries (closeBytes (written w) ws) (endCode (closeOf w ws .0 .answer)) (closeOf w ws .0 .next)
       (closeOf w ws .1)
-  unfolding closeBytes endedBytes answeredBytes endCode closeOf
+  unfolding closeBytes endedBytes toldBytes endCode closeOf
   close-step =
       subst (λ o. Carries o (endCode (closeOf w ws .0 .answer)) (closeOf w ws .0 .next) (closeOf w ws .1))
       (ap (λ v. endedBytes (closeOf v ws) (written w)) (read-back w m)

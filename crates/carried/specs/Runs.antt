@@ -9,9 +9,9 @@ use Rattle.meaning.specs.Meaning.{valueOf}
 use Rattle.meaning.specs.Horizon.{within, horizon as horizonOf, AllFinite}
 use Rattle.watcher.specs.declared.state.Word.{Word}
 use Rattle.watcher.specs.Records.{wrongRecord, timeOf}
-use Rattle.watcher.specs.Numbers.{saying, verdictFor}
+use Rattle.watcher.specs.Numbers.{saying, verdictFor, decided}
 use Rattle.watcher.specs.Machine.{MachineBytes, MachineWords}
-use Rattle.watcher.specs.Runs.{pieces, decided}
+use Rattle.watcher.specs.Runs.{pieces}
 use Rattle.demands.specs.Watching.{feeding}
 use Rattle.demands.specs.Logs.{lastTime, accepts, logWith, logOf}
 use Rattle.demands.specs.Rewritten.{readRule, heldAfter, heldClosed, wordAfter}

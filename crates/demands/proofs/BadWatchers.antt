@@ -16,15 +16,15 @@ use Rattle.watcher.specs.declared.state.Answer.the-variants as answer
 use Rattle.watcher.specs.declared.state.Started.{Started}
 use Rattle.watcher.specs.Rules.{recordsOf}
 use Rattle.watcher.specs.Records.{entryOf}
-use Rattle.watcher.specs.Numbers.{saying, verdictFor}
+use Rattle.watcher.specs.Numbers.{saying, verdictFor, Says, foundIn, foundAt, decided}
 use Rattle.watcher.specs.Calls.{startWith}
-use Rattle.watcher.specs.Runs.{Held, decided}
+use Rattle.watcher.specs.Runs.{Held}
 use Rattle.demands.specs.Watching.{Three, Call, feeding, closing, told, handed, handedOn, reached, MachineCall}
 use Rattle.demands.specs.Watching.{MachineCalls, Begun}
 use Rattle.demands.specs.Logs.{logWith, courseOf}
 use Rattle.demands.specs.Rewritten.{heldIn}
-use Rattle.demands.specs.Demands.{Says, Demands, Decides}
-use Rattle.demands.specs.Tables.{foundIn, foundAt, Carries}
+use Rattle.demands.specs.Demands.{Demands, Decides}
+use Rattle.demands.specs.Tables.{Carries}
 use Rattle.demands.specs.Examples.{vents}
 use Rattle.demands.specs.BadWatchers.{RefusesStarts, RefusesRecords, RefusesClosing, StartsUntouched}
 use Rattle.demands.specs.BadWatchers.{FeedsUntouched, ClosesUntouched, NeverSaysBroken, NeverEndsBroken, OnlyNods}

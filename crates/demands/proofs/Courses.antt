@@ -22,7 +22,7 @@ use Rattle.watcher.specs.declared.state.Fed.{Fed}
 use Rattle.watcher.specs.declared.state.Ended.{Ended}
 use Rattle.watcher.specs.Limits.{mostParameters}
 use Rattle.watcher.specs.Records.{wrongRecord, timeOf, entryOf}
-use Rattle.watcher.specs.Numbers.{saying, verdictFor, stageOf}
+use Rattle.watcher.specs.Numbers.{saying, verdictFor, stageOf, Says}
 use Rattle.watcher.specs.State.{brokenState}
 use Rattle.watcher.specs.Calls.{wrongArea, isClosed, isFresh, tooEarly, startOf, startWith, startRefusal, feedOf}
 use Rattle.watcher.specs.Calls.{freshState, runningState, closedState, feedRefusal, closeRefusal}
@@ -32,7 +32,6 @@ use Rattle.demands.specs.Watching.{defined, Call, feeding, closing, told
 use Rattle.demands.specs.Logs.{lastTime, accepts, logWith, Course, going, over, further, furtherBy, courseOf}
 use Rattle.demands.specs.Logs.{logIn}
 use Rattle.demands.specs.Rewritten.{readRule, parametersIn, heldKnown, heldAfter, heldClosed, heldIn, wordAfter}
-use Rattle.demands.specs.Demands.{Says}
 use Rattle.demands.proofs.OwnStates.{start-accepted, stateIn, fresh-fine, running-fine, closed-fine}
 use Rattle.demands.proofs.Feeding.{feed-wrong, feed-early, close-nothing, closed-refuses, refused-feed}
 use Rattle.demands.proofs.Feeding.{refused-close, area-right, FedInto, feed-first, feed-later}

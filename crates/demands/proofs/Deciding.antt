@@ -18,15 +18,13 @@ use Rattle.watcher.specs.declared.state.Answer.the-variants as answer
 use Rattle.watcher.specs.declared.state.End.the-variants as end
 use Rattle.watcher.specs.Rules.{recordsOf}
 use Rattle.watcher.specs.Records.{timeOf, entryOf}
-use Rattle.watcher.specs.Numbers.{saying, verdictFor}
+use Rattle.watcher.specs.Numbers.{saying, verdictFor, Says, decided}
 use Rattle.watcher.specs.Numbers as numbers
-use Rattle.watcher.specs.Runs.{decided}
 use Rattle.watcher.proofs.Decoded.{Accepted}
 use Rattle.demands.specs.Watching.{defined, Call, feeding, told, ending}
 use Rattle.demands.specs.Logs.{lastTime, accepts, logWith, Course, going, over, further, furtherBy, courseOf}
 use Rattle.demands.specs.Logs.{logIn, logOf}
 use Rattle.demands.specs.Rewritten.{readRule, heldAfter, heldIn, wordAfter}
-use Rattle.demands.specs.Demands.{Says}
 use Rattle.demands.proofs.Judging.{Judged, taken, wrong, early, judge}
 use Rattle.demands.proofs.Logs.{Right, right-rising, right-none, right-all, further-parts}
 use Rattle.demands.proofs.Logs.{further-log, last-more, right-onward}

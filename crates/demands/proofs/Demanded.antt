@@ -21,10 +21,9 @@ use Rattle.watcher.specs.Limits.{mostSignals}
 use Rattle.watcher.specs.Signals.{limitOf}
 use Rattle.watcher.specs.Records.{meets, signalHolds, signalWord, entryOf}
 use Rattle.watcher.specs.Lists.{listTests}
-use Rattle.watcher.specs.Numbers.{refusalNumber, saying}
+use Rattle.watcher.specs.Numbers.{refusalNumber, saying, Says, foundIn, foundAt, decided}
 use Rattle.watcher.specs.Calls.{zeroState, startRefusal, startWith, startOf, stateTests, feedRefusal, feedWith, feedOf}
 use Rattle.watcher.specs.Calls.{closeRefusal, closeWith, closeOf}
-use Rattle.watcher.specs.Runs.{decided}
 use Rattle.watcher.specs.Machine.{MachineBytes}
 use Rattle.watcher.proofs.Decoded.{Accepted}
 use Rattle.watcher.proofs.Speed.{wind-exact}
@@ -32,9 +31,9 @@ use Rattle.demands.specs.Watching.{Three, Meets, defined, Call, feeding,
 use Rattle.demands.specs.Watching.{MachineCalls, Begun}
 use Rattle.demands.specs.Logs.{logWith, going, courseOf, logIn}
 use Rattle.demands.specs.Rewritten.{heldIn, wordAfter}
-use Rattle.demands.specs.Tables.{startTable, feedTable, closeTable, foundIn, foundAt, Carries, AsTable}
-use Rattle.demands.specs.Demands.{Says, Demand1, Rewrites, ClosingReports, StateIsRewritten, WordIsRewritten, WindIsExact}
-use Rattle.demands.specs.Demands.{WordHolds, WordStays, ClosingAgrees}
+use Rattle.demands.specs.Tables.{startTable, feedTable, closeTable, Carries, AsTable}
+use Rattle.demands.specs.Demands.{Demand1, Rewrites, ClosingReports, StateIsRewritten, WordIsRewritten}
+use Rattle.demands.specs.Demands.{WindIsExact, WordHolds, WordStays, ClosingAgrees}
 use Rattle.demands.specs.Demands.{FiniteIsDecided, HorizonDecides, Demands}
 use Rattle.demands.proofs.OwnStates.{start-accepted}
 use Rattle.demands.proofs.Tabled.{as-table}

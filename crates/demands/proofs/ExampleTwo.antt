@@ -22,7 +22,7 @@ use Rattle.watcher.specs.declared.state.Word.the-variants as told
 use Rattle.watcher.specs.Limits.{mostParameters, areaWords}
 use Rattle.watcher.specs.Rules.{recordsOf}
 use Rattle.watcher.specs.Records.{entryOf}
-use Rattle.watcher.specs.Numbers.{saying}
+use Rattle.watcher.specs.Numbers.{saying, Says}
 use Rattle.watcher.specs.declared.state.Found.the-variants.{Fine}
 use Rattle.watcher.specs.Calls.{startRefusal}
 use Rattle.watcher.specs.Machine.{MachineBytes, MachineWords}
@@ -31,7 +31,6 @@ use Rattle.demands.specs.Watching.{defined, feeding, closing, told, hand
 use Rattle.demands.specs.Logs.{accepts, logWith, going, over, further, furtherBy, courseOf, logIn}
 use Rattle.demands.specs.Rewritten.{readRule, parametersIn, heldKnown, heldAfter, heldClosed, heldIn, wordAfter}
 use Rattle.demands.specs.Tables.{startTable, NoneHolds}
-use Rattle.demands.specs.Demands.{Says}
 use Rattle.demands.specs.Examples.{table, Answers, ruleA, vents, at, Run, allIn}
 use Rattle.demands.proofs.OwnStates.{start-accepted, few-parameters}
 use Rattle.demands.proofs.Logs.{right-none, right-taken, further-parts}

@@ -1,11 +1,10 @@
 -- What feeding and closing do to a state and an area that the watcher made.
 -- Assumes nothing.
 use mathlib.Core.Path.{_≡_, refl, sym, ap, _∙_, subst}
-use mathlib.Core.Bool.{Bool, true, false, not}
+use mathlib.Core.Bool.{Bool, true, false}
 use mathlib.Core.List.{List, []}
 use Prim.Native.Nat.{ℕ, _≤_}
-use lib.ListN.{length}
-use borrow.Author.Tests.{le-ltb, eq-eqb}
+use borrow.Author.Tests.{le-ltb}
 use Rattle.forms.specs.Form.{Form}
 use Rattle.meaning.specs.Rule.{Node, Entry, parameters}
 use Rattle.meaning.specs.Words.{Known, first, feed, close, valueIfLast, word}
@@ -21,19 +20,20 @@ use Rattle.watcher.specs.declared.state.Answer.the-variants as answer
 use Rattle.watcher.specs.declared.state.End.the-variants as end
 use Rattle.watcher.specs.declared.state.Fed.{Fed}
 use Rattle.watcher.specs.declared.state.Ended.{Ended}
-use Rattle.watcher.specs.Limits.{mostParameters, areaWords}
+use Rattle.watcher.specs.Limits.{mostParameters}
 use Rattle.watcher.specs.Rules.{recordsOf}
 use Rattle.watcher.specs.Records.{wrongRecord, timeOf, entryOf}
 use Rattle.watcher.specs.Lists.{firstRefusal}
-use Rattle.watcher.specs.Numbers.{saying, verdictFor, Stage, stageOf}
+use Rattle.watcher.specs.Numbers.{saying, verdictFor, Stage, stageOf, Says}
 use Rattle.watcher.specs.State.{parametersOf, brokenState}
 use Rattle.watcher.specs.Calls.{wrongArea, isClosed, isFresh, tooEarly, stateTests, feedRefusal, closeRefusal}
-use Rattle.watcher.specs.Calls.{knownNext, runningState, feedWith, feedOf, knownNow, closedState}
+use Rattle.watcher.specs.Calls.{knownNext, runningState, reportOf, feedWith, feedOf, knownNow, closedState}
 use Rattle.watcher.specs.Calls.{closeWith, closeOf}
 use Rattle.watcher.specs.Calls.{freshState}
 use Rattle.demands.specs.Rewritten.{readRule, parametersIn, heldKnown, heldAfter}
-use Rattle.demands.specs.Demands.{Says}
 use Rattle.watcher.proofs.Decoded.{Accepted}
+use Rattle.watcher.proofs.Reports.{report-says}
+use Rattle.watcher.proofs.Testing.{area-right as long-right}
 use Rattle.rewriting.proofs.Placed.{length-areaOf, read-past, read-remainder}
 use Rattle.demands.proofs.Padding.{entry-padded}
 use Rattle.demands.proofs.OwnStates.{stateIn, list-short, rule-in, few-parameters, Lawful, fresh-fine}
@@ -83,20 +83,14 @@ refused-close w ws r e = ap (λ f. closeWith f w ws) e
 -- the area that is laid out has its words
 pub area-right : (m : ℕ) (past : List (Form m)) (remainder : Form m)
     → wrongArea (areaOf mostParameters m past remainder) ≡ false
-unfolding wrongArea
-area-right m past remainder =
-    ap not (eq-eqb (length (areaOf mostParameters m past remainder)) areaWords
-    (length-areaOf mostParameters m past remainder))
+area-right m past remainder = long-right _ (length-areaOf mostParameters m past remainder)
 
 -- what feeding and closing hand back, with the rule apart
 unfoldable fedBy : List Node → Watcher → Entry → List ℕ → Stage → Fed × List ℕ
 fedBy rule w e ws stage =
     let m : ℕ = parameters rule in
     let s : Known m = knownNext m rule ws e stage in (
-      record {
-        answer = answer.Accepted (record { word = saying (word m (s .remainder)) });
-        next = runningState w e;
-      },
+      record { answer = answer.Accepted (reportOf m s); next = runningState w e },
       areaOf mostParameters m (s .past) (s .remainder),
     )
 
@@ -162,7 +156,7 @@ module _ (rule signals : List ℕ) (fine : Accepted rule signals) where
       → FedInto rule signals (first (parametersIn rule) (readRule rule) (entryOf signals (recordsOf signals) bytes))
       (feedOf (heldAfter rule signals [] .state) bytes (heldAfter rule signals [] .area))
   unfolding heldAfter heldKnown freshState stateIn stageOf isClosed tooEarly fedBy knownNext runningState first
-      parametersIn Says
+      parametersIn
   feed-first bytes right =
       subst (FedInto rule signals (first m (readRule rule) e))
       (sym
@@ -171,7 +165,7 @@ module _ (rule signals : List ℕ) (fine : Accepted rule signals) where
       bytes right refl)))
       (subst (λ g. FedInto rule signals (words.leave m (readRule rule) g e) outcome)
       (read-remainder mostParameters m [] f (few-parameters rule signals fine))
-      (record { says = refl; next = refl; area = refl }))
+      (record { says = report-says m _; next = refl; area = refl }))
     where
       m : ℕ
       m = parameters (readRule rule)
@@ -193,7 +187,7 @@ module _ (rule signals : List ℕ) (fine : Accepted rule signals) where
       → wrongRecord bytes ≡ false → s .last .time ≤ timeOf bytes
       → FedInto rule signals (feed (parametersIn rule) (readRule rule) s (entryOf signals (recordsOf signals) bytes))
       (feedOf (heldKnown rule signals s .state) bytes (heldKnown rule signals s .area))
-  unfolding heldKnown freshState stateIn stageOf isClosed tooEarly fedBy knownNext runningState feed parametersIn Says
+  unfolding heldKnown freshState stateIn stageOf isClosed tooEarly fedBy knownNext runningState feed parametersIn
   feed-later s ok bytes right time =
       subst (FedInto rule signals (feed m (readRule rule) s e))
       (sym
@@ -201,7 +195,7 @@ module _ (rule signals : List ℕ) (fine : Accepted rule signals) where
       (feed-accepts (stateIn rule signals p) ws (area-right m (s .past) (s .remainder))
       (running-fine rule signals fine s ok) refl bytes right (le-ltb (timeOf bytes) (s .last .time) time))))
       (subst (λ k. FedInto rule signals (feed m (readRule rule) k e) outcome) (known-read s ok)
-      (record { says = refl; next = refl; area = refl }))
+      (record { says = report-says m _; next = refl; area = refl }))
     where
       m : ℕ
       m = parameters (readRule rule)

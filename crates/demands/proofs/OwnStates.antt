@@ -1,12 +1,12 @@
 -- The states that the watcher makes of accepted lists, and that refusal 12 is not given for them.
 -- Assumes nothing.
 use mathlib.Core.Path.{_≡_, refl, sym, ap, ap₂, _∙_}
-use mathlib.Core.Bool.{Bool, true, false, not, _||_, cond}
-use mathlib.Core.List.{List, [], _∷_, _++_}
+use mathlib.Core.Bool.{false, not, _||_}
+use mathlib.Core.List.{List, []}
 use Prim.Native.Nat.{ℕ, _*_, _^_, _≤_, _<_}
 use native.Mathlib.Omega.{arith}
 use lib.ListN.{length, take}
-use borrow.Author.Tests.{le-ltb, lt-leb, eq-eqb, eqb-true, not-false}
+use borrow.Author.Tests.{le-ltb, lt-leb}
 use Rattle.forms.specs.Form.{Form}
 use Rattle.meaning.specs.Rule.{parameters}
 use Rattle.meaning.specs.Words.{Known}
@@ -18,73 +18,38 @@ use Rattle.watcher.specs.declared.state.Phase.{Phase}
 use Rattle.watcher.specs.declared.state.Phase.the-variants as phase
 use Rattle.watcher.specs.declared.state.Verdict.{Verdict}
 use Rattle.watcher.specs.declared.state.Refusal.{Refusal}
-use Rattle.watcher.specs.declared.state.Refusal.the-variants.{AreaLength}
 use Rattle.watcher.specs.declared.state.Found.the-variants.{Fine, Refused}
 use Rattle.watcher.specs.Limits.{mostRecords, mostSignals, mostParameters, listBytes, areaWords}
 use Rattle.watcher.specs.Rules.{recordsOf}
-use Rattle.watcher.specs.Lists.{Test, firstRefusal, listTests, listsRefusal}
+use Rattle.watcher.specs.Lists.{listsRefusal}
 use Rattle.watcher.specs.Numbers.{stageOf}
 use Rattle.watcher.specs.State.{ruleOf, parametersOf, ruleBytes, listBytesOf, isRefused, startRefuses}
 use Rattle.watcher.specs.State.{notZerosBehind, signalsAbove, wrongInPhase, brokenState}
-use Rattle.watcher.specs.Calls.{wrongArea, startRefusal, padded}
+use Rattle.watcher.specs.Calls.{startRefusal, padded}
 use Rattle.demands.specs.Rewritten.{readRule, parametersIn}
-use Rattle.watcher.proofs.Decoded.{Accepted, fine-tests, tests-fine, first-fine, length-fine, Whole}
+use Rattle.watcher.proofs.Decoded.{Accepted, fine-tests, tests-fine, length-fine, Whole}
 use Rattle.watcher.proofs.Decoded.{accepted-list, accepted-few}
 use Rattle.watcher.proofs.Refusing.{length-most}
+use Rattle.watcher.proofs.Testing.{start-refused, start-fine, start-passed}
 use Rattle.rewriting.proofs.Placed.{read-past}
 use Rattle.rewriting.proofs.TidyRows.{bits-fine, unused-fine}
 use Rattle.rewriting.proofs.ShapedRows.{rows-fine}
 use Rattle.demands.proofs.Padding.{take-padded, zeros-padded, rule-padded}
 
--- tests one after another
-first-split : (ts us : List Test) → firstRefusal (ts ++ us) ≡ Fine
-    → (firstRefusal ts ≡ Fine) × (firstRefusal us ≡ Fine)
-unfolding firstRefusal
-first-split [] us e = (refl, e)
-first-split (t ∷ ts) us e =
-    let a = first-fine (t .holds) (t .gives) (firstRefusal (ts ++ us)) e in
-    let b = first-split ts us (a .1) in
-    (ap (λ x. cond x (Refused (t .gives)) (firstRefusal ts)) (a .0) ∙ b .0, b .1)
-
-first-join : (ts us : List Test) → firstRefusal ts ≡ Fine → firstRefusal (ts ++ us) ≡ firstRefusal us
-unfolding firstRefusal
-first-join [] us e = refl
-first-join (t ∷ ts) us e =
-    let a = first-fine (t .holds) (t .gives) (firstRefusal ts) e in
-    ap (λ x. cond x (Refused (t .gives)) (firstRefusal (ts ++ us))) (a .0) ∙ first-join ts us (a .1)
-
-first-refused : (ts us : List Test) (r : Refusal) → firstRefusal ts ≡ Refused r → firstRefusal (ts ++ us) ≡ Refused r
-unfolding firstRefusal
-first-refused [] us r e = let z : _≡_ {A = ℕ} 0 1 = cc in let n : ⊥ = omega arith in absurd n
-first-refused (t ∷ ts) us r e = go (t .holds) (first-refused ts us r) e
-  where
-    go : (b : Bool) → (firstRefusal ts ≡ Refused r → firstRefusal (ts ++ us) ≡ Refused r)
-        → cond b (Refused (t .gives)) (firstRefusal ts) ≡ Refused r
-        → cond b (Refused (t .gives)) (firstRefusal (ts ++ us)) ≡ Refused r
-    go true rest e = e
-    go false rest e = rest e
-
 -- start refuses lists that do not pass, whatever the area
 pub start-refuses : (rule signals ws : List ℕ) (r : Refusal) → listsRefusal rule signals ≡ Refused r
     → startRefusal rule signals ws ≡ Refused r
-unfolding startRefusal listsRefusal
-start-refuses rule signals ws r e = first-refused (listTests rule signals) _ r e
+start-refuses rule signals ws r e = sym (start-refused rule signals ws (Refused r) (sym e) r refl)
 
 -- start accepts lists that pass with an area of 1,664 words, and nothing else
 pub start-accepts : (rule signals ws : List ℕ) → listsRefusal rule signals ≡ Fine → length ws ≡ areaWords
     → startRefusal rule signals ws ≡ Fine
-unfolding startRefusal wrongArea listsRefusal firstRefusal
-start-accepts rule signals ws e l =
-    first-join (listTests rule signals) _ e
-    ∙ ap (λ b. cond (not b) (Refused AreaLength) Fine) (eq-eqb (length ws) areaWords l)
+start-accepts rule signals ws e l = sym (start-fine rule signals ws Fine (sym e) refl l)
 
 pub start-accepted : (rule signals ws : List ℕ) → startRefusal rule signals ws ≡ Fine
     → Accepted rule signals × (length ws ≡ areaWords)
-unfolding startRefusal firstRefusal wrongArea listsRefusal
 start-accepted rule signals ws e =
-    let a = first-split (listTests rule signals) _ e in
-    let b = first-fine (wrongArea ws) _ _ (a .1) in
-    (fine-tests rule signals (a .0), eqb-true (length ws) areaWords (not-false _ (b .0)))
+    let p = start-passed rule signals ws Fine (sym e) refl in (fine-tests rule signals (p .0), p .1)
 
 -- a state with the lists that start was given, in some phase
 unfoldable pub stateIn : (rule signals : List ℕ) → Phase → Watcher

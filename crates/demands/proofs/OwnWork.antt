@@ -12,7 +12,7 @@ use Rattle.meaning.specs.Words.{Known, after}
 use Rattle.watcher.specs.declared.state.Phase.{Phase}
 use Rattle.watcher.specs.declared.state.Phase.the-variants as phase
 use Rattle.watcher.specs.Limits.{mostParameters}
-use Rattle.watcher.specs.Numbers.{refusalNumber}
+use Rattle.watcher.specs.Numbers.{refusalNumber, foundIn, foundAt}
 use Rattle.watcher.specs.Calls.{freshState, runningState, closedState, waitOf}
 use Rattle.watcher.specs.Machine.{MachineBytes}
 use Rattle.watcher.specs.Runs.{Held}
@@ -21,7 +21,7 @@ use Rattle.demands.specs.Watching.{Three, Meets, defined, closing, told,
 use Rattle.demands.specs.Watching.{MachineCall}
 use Rattle.demands.specs.Logs.{lastTime, Course, going, over, courseOf, logIn}
 use Rattle.demands.specs.Rewritten.{readRule, parametersIn, heldKnown, heldAfter, heldClosed, heldIn}
-use Rattle.demands.specs.Tables.{foundIn, foundAt, Carries}
+use Rattle.demands.specs.Tables.{Carries}
 use Rattle.demands.specs.OwnWork.{OwnWorkIsFine}
 use Rattle.rewriting.proofs.TidyRows.{past-laid}
 use Rattle.demands.proofs.OwnStates.{start-accepted, stateIn, rule-in, lists-in}

@@ -11,7 +11,7 @@ use Rattle.ground.proofs.Tabs.{tab-cong}
 use Rattle.forms.specs.Words.{unpack}
 use Rattle.forms.specs.Area.{rowAt}
 use Rattle.meaning.specs.Rule.{Node, Entry}
-use Rattle.meaning.specs.Words.{Known, leave, feed, close, valueIfLast, word}
+use Rattle.meaning.specs.Words.{Known, leave, feed, close, valueIfLast}
 use Rattle.rewriting.specs.Known.{formAt, pastIn, knownIn, areaOf}
 use Rattle.rewriting.specs.Shape.{bitsAbove, notZeroFrom, wrongRows}
 use Rattle.rewriting.proofs.TidyRows.{bits-same, zeros-same}
@@ -20,14 +20,14 @@ use Rattle.watcher.specs.declared.state.Found.the-variants as found
 use Rattle.watcher.specs.declared.state.Answer.the-variants as answer
 use Rattle.watcher.specs.declared.state.End.the-variants as end
 use Rattle.watcher.specs.Limits.{mostParameters, listBytes, areaWords}
-use Rattle.watcher.specs.Numbers.{saying, verdictFor, Stage, fresh, running, closed, stageOf}
+use Rattle.watcher.specs.Numbers.{verdictFor, Stage, fresh, running, closed, stageOf}
 use Rattle.watcher.specs.State.{parametersOf, startRefuses, notZerosBehind, signalsAbove, wrongInPhase, brokenState}
 use Rattle.watcher.specs.State.{ruleOf}
 use Rattle.watcher.specs.Records.{entryOf}
 use Rattle.watcher.specs.Lists.{Test, firstRefusal}
 use Rattle.watcher.specs.Calls.{wrongArea, stateTests, startRefusal, feedRefusal, closeRefusal}
 use Rattle.watcher.specs.Calls.{startWith, startOf, feedWith, feedOf, closeWith, closeOf, knownNext, knownNow}
-use Rattle.watcher.specs.Calls.{runningState, closedState}
+use Rattle.watcher.specs.Calls.{runningState, reportOf, closedState}
 use Rattle.demands.specs.Areas.{Alike}
 use Rattle.watcher.proofs.HeldLaws.{held-few}
 use Rattle.watcher.proofs.Decoded.{neither, first-fine}
@@ -135,7 +135,7 @@ module _ (a b : List ℕ) (alike : Alike a b) where
         ∙ ap
         (λ (s : Known (parametersOf w)). (
           record {
-            answer = answer.Accepted (record { word = saying (word (parametersOf w) (s .remainder)) });
+            answer = answer.Accepted (reportOf (parametersOf w) s);
             next = runningState w (entryOf (w .list) (w .signals) bytes);
           },
           areaOf mostParameters (parametersOf w) (s .past) (s .remainder),

@@ -8,10 +8,10 @@ use Rattle.watcher.specs.declared.state.Word.the-variants as word
 use Rattle.watcher.specs.declared.state.Verdict.the-variants as verdict
 use Rattle.watcher.specs.declared.state.End.the-variants.{Closed}
 use Rattle.watcher.specs.Machine.{MachineBytes, MachineWords}
+use Rattle.watcher.specs.Numbers.{Says, foundIn, foundAt}
 use Rattle.demands.specs.Watching.{Three, Call, feeding, closing, told, ending, handed, reached, MachineCalls, Begun}
 use Rattle.demands.specs.Logs.{going, courseOf}
-use Rattle.demands.specs.Tables.{foundIn, foundAt, Carries}
-use Rattle.demands.specs.Demands.{Says}
+use Rattle.demands.specs.Tables.{Carries}
 
 -- one that refuses everything: every start, every record, every closing
 abbrev pub RefusesStarts : Three → Type 0

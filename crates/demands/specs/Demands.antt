@@ -11,28 +11,19 @@ use Rattle.meaning.specs.Horizon.{within, horizon, AllFinite}
 use Rattle.rewriting.specs.Decode.{byteOf}
 use Rattle.watcher.specs.declared.state.Watcher.{Watcher}
 use Rattle.watcher.specs.declared.state.Word.{Word}
-use Rattle.watcher.specs.declared.state.Answer.{Answer}
-use Rattle.watcher.specs.declared.state.Answer.the-variants.{Accepted, Refused}
 use Rattle.watcher.specs.declared.state.End.the-variants.{Closed}
 use Rattle.watcher.specs.declared.state.Found.the-variants.{Fine}
 use Rattle.watcher.specs.Limits.{mostSignals}
 use Rattle.watcher.specs.Signals.{limitOf}
 use Rattle.watcher.specs.Records.{timeOf, entryOf}
 use Rattle.watcher.specs.Speed.{notSlower, perSecond, windSpeed}
-use Rattle.watcher.specs.Numbers.{saying, verdictFor}
+use Rattle.watcher.specs.Numbers.{saying, decided, Says, foundIn, foundAt, verdictFor}
 use Rattle.watcher.specs.Calls.{zeroState, startWith, feedWith, closeWith}
 use Rattle.watcher.specs.Machine.{MachineBytes, MachineWords, MachineState}
-use Rattle.watcher.specs.Runs.{decided}
 use Rattle.demands.specs.Watching.{Three, Call, feeding, told, ending, reached, MachineCalls, Begun}
 use Rattle.demands.specs.Logs.{lastTime, accepts, logWith, going, courseOf, logOf}
 use Rattle.demands.specs.Rewritten.{readRule, heldIn, wordAfter}
-use Rattle.demands.specs.Tables.{startTable, feedTable, closeTable, NoneHolds, foundIn, foundAt, Carries}
-use Rattle.demands.specs.Tables.{AsTable}
-
--- the record was accepted with this word
-unfoldable pub Says : Answer → Word → Type 0
-Says (Accepted report) w = report .word ≡ w
-Says (Refused r) w = ⊥
+use Rattle.demands.specs.Tables.{startTable, feedTable, closeTable, NoneHolds, Carries, AsTable}
 
 -- Demand 1: everything handed in gets an answer, and a refusal carries the number from the table, is given exactly
 -- when the table says, and changes neither state nor work area; a refused start gives a fresh state of zeros.

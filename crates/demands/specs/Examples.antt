@@ -15,7 +15,7 @@ use Rattle.watcher.specs.declared.state.Found.the-variants.{Fine, Refused}
 use Rattle.watcher.specs.declared.state.End.{End}
 use Rattle.watcher.specs.declared.state.End.the-variants as end
 use Rattle.watcher.specs.Limits.{areaWords}
-use Rattle.watcher.specs.Numbers.{refusalNumber, saying, verdictValue}
+use Rattle.watcher.specs.Numbers.{refusalNumber, saying, verdictValue, Says}
 use Rattle.watcher.specs.Rules.{recordsOf}
 use Rattle.watcher.specs.Records.{entryOf}
 use Rattle.watcher.specs.Lists.{listsRefusal}
@@ -26,7 +26,6 @@ use Rattle.demands.specs.Watching.{defined, feeding, told, ending, hande
 use Rattle.demands.specs.Logs.{accepts, logWith}
 use Rattle.demands.specs.Rewritten.{readRule, parametersIn}
 use Rattle.demands.specs.Tables.{Carries}
-use Rattle.demands.specs.Demands.{Says}
 
 -- a record of a rule list, and of a signal list ("at least")
 abbrev pub ruleRecord : (kind left right low high : ℕ) → List ℕ

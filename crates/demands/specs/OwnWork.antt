@@ -11,10 +11,11 @@ use Rattle.watcher.specs.Records.{wrongRecord, timeOf}
 use Rattle.watcher.specs.State.{brokenState}
 use Rattle.watcher.specs.Calls.{wrongArea, waitOf}
 use Rattle.watcher.specs.Machine.{MachineBytes}
+use Rattle.watcher.specs.Numbers.{foundIn, foundAt}
 use Rattle.demands.specs.Watching.{Three, Call, closing, told, ending, handed, reached, MachineCalls, Begun}
 use Rattle.demands.specs.Logs.{lastTime, going, over, courseOf}
 use Rattle.demands.specs.Rewritten.{readRule}
-use Rattle.demands.specs.Tables.{foundIn, foundAt, Carries}
+use Rattle.demands.specs.Tables.{Carries}
 
 -- after start and any calls
 pub record OwnWork (f : Three) (rule signals ws : List ℕ) (calls : List Call) : Type 0 where

@@ -7,10 +7,6 @@ use Prim.Native.Nat.{ℕ}
 use Rattle.watcher.specs.declared.state.Watcher.{Watcher}
 use Rattle.watcher.specs.declared.state.Found.{Found}
 use Rattle.watcher.specs.declared.state.Found.the-variants.{Fine, Refused}
-use Rattle.watcher.specs.declared.state.Answer.{Answer}
-use Rattle.watcher.specs.declared.state.Answer.the-variants as answer
-use Rattle.watcher.specs.declared.state.End.{End}
-use Rattle.watcher.specs.declared.state.End.the-variants as end
 use Rattle.watcher.specs.Rules.{recordsOf, wrongLength, ruleBreaks, hasTwins, manyParameters}
 use Rattle.watcher.specs.Signals.{wrongSignals, namesMissing}
 use Rattle.watcher.specs.Records.{wrongRecord, timeOf}
@@ -68,16 +64,7 @@ unfoldable pub NoneHolds : List Line → Type 0
 NoneHolds [] = Unit {0}
 NoneHolds (l ∷ more) = (l .holds ≡ false) × NoneHolds more
 
--- what an answer to a record, and to closing, says of the tests
-unfoldable pub foundIn : Answer → Found
-foundIn (answer.Accepted report) = Fine
-foundIn (answer.Refused r) = Refused r
-
-unfoldable pub foundAt : End → Found
-foundAt (end.Closed v) = Fine
-foundAt (end.Refused r) = Refused r
-
--- it is a refusal that carries this number
+-- what was found is a refusal that carries this number
 unfoldable pub Carries : Found → ℕ → Type 0
 Carries Fine n = ⊥
 Carries (Refused r) n = refusalNumber r ≡ n

@@ -19,8 +19,7 @@ use Rattle.watcher.specs.declared.state.Answer.{Answer}
 use Rattle.watcher.specs.declared.state.Answer.the-variants as answer
 use Rattle.watcher.specs.declared.state.End.{End}
 use Rattle.watcher.specs.declared.state.End.the-variants as end
-use Rattle.watcher.specs.Numbers.{verdictValue, refusalNumber}
-use Rattle.watcher.specs.Runs.{decided}
+use Rattle.watcher.specs.Numbers.{verdictValue, refusalNumber, decided}
 use Rattle.watcher.specs.Records.{timeOf}
 use Rattle.watcher.proofs.Numbers.{number-most}
 use Rattle.lines.specs.Text.{digits, decimal, space, newline, wordText, wordLine, refusedLine, foundLine}

@@ -12,8 +12,7 @@ use Rattle.watcher.specs.declared.state.Answer.{Answer}
 use Rattle.watcher.specs.declared.state.Answer.the-variants as answer
 use Rattle.watcher.specs.declared.state.End.{End}
 use Rattle.watcher.specs.declared.state.End.the-variants as end
-use Rattle.watcher.specs.Numbers.{verdictValue, refusalNumber}
-use Rattle.watcher.specs.Runs.{decided}
+use Rattle.watcher.specs.Numbers.{verdictValue, refusalNumber, decided}
 
 -- the last digits of a number, as many as it has and no more than so many: the last stands last
 unfoldable pub digits : (most n : ℕ) → List ℕ

@@ -11,17 +11,17 @@ use Rattle.watcher.specs.declared.state.Watcher.{Watcher}
 use Rattle.watcher.specs.declared.state.Wait.{Wait}
 use Rattle.watcher.specs.declared.state.Found.{Found}
 use Rattle.watcher.specs.declared.state.Refusal.{Refusal}
-use Rattle.watcher.specs.declared.state.Report.{Report}
-use Rattle.watcher.specs.declared.state.Answer.{Answer}
-use Rattle.watcher.specs.declared.state.Answer.the-variants.{Accepted, Refused}
+use Rattle.watcher.specs.declared.state.Word.{Word}
 use Rattle.watcher.specs.declared.state.Started.{Started}
 use Rattle.watcher.specs.declared.state.Fed.{Fed}
 use Rattle.watcher.specs.declared.state.Ended.{Ended}
 use Rattle.watcher.specs.Numbers.{horizonFor}
 use Rattle.watcher.specs.Calls.{startOf, feedOf, feedRefusal, closeOf, waitOf}
-use Rattle.port.specs.Codes.{stateLength, foundCode, answerCode, asAnswer, horizonCode}
+use Rattle.port.specs.declared.codes.Told.{Told}
+use Rattle.port.specs.declared.codes.Told.the-variants.{Said, Refused}
+use Rattle.port.specs.Codes.{stateLength, foundCode, toldOf, toldAt, toldCode, horizonCode}
 use Rattle.port.specs.Layout.{stateBytes, written, stateIn}
-use Rattle.port.specs.Exports.{wrongState, startedBytes, startBytes, refusalBytes, keptUnless, answeredBytes}
+use Rattle.port.specs.Exports.{wrongState, startedBytes, startBytes, refusalBytes, keptUnless, toldBytes}
 use Rattle.port.specs.Exports.{fedBytes, feedBytes, endedBytes, closeBytes, horizonBytes}
 
 -- bytes of another length are no state
@@ -69,45 +69,43 @@ pub feed-wrong : (bytes piece ws : List ℕ) → (length bytes ≡ stateBytes �
 unfolding feedBytes
 feed-wrong bytes piece ws h = wrong-one bytes _ _ h
 
--- an answer leaves the next state in the bytes, and a refusal what was there
-pub kept-next : (a : Answer) (report : Report) (next bytes : List ℕ) → a ≡ Accepted report
-    → next ≡ keptUnless a next bytes
+-- a word leaves the next state in the bytes, and a refusal what was there
+pub kept-next : (t : Told) (w : Word) (next bytes : List ℕ) → t ≡ Said w → next ≡ keptUnless t next bytes
 unfolding keptUnless
-kept-next a report next bytes e = ap (λ x. keptUnless x next bytes) (sym e)
+kept-next t w next bytes e = ap (λ x. keptUnless x next bytes) (sym e)
 
-pub kept-here : (a : Answer) (r : Refusal) (next bytes : List ℕ) → a ≡ Refused r → bytes ≡ keptUnless a next bytes
+pub kept-here : (t : Told) (r : Refusal) (next bytes : List ℕ) → t ≡ Refused r → bytes ≡ keptUnless t next bytes
 unfolding keptUnless
-kept-here a r next bytes e = ap (λ x. keptUnless x next bytes) (sym e)
+kept-here t r next bytes e = ap (λ x. keptUnless x next bytes) (sym e)
 
-answered : (a : Answer) (next : Watcher) (ws bytes after : List ℕ) (n : ℕ)
-    → (n ≡ answerCode a) × (after ≡ keptUnless a (written next) bytes)
-    → (n, after, ws) ≡ answeredBytes a next ws bytes
-unfolding answeredBytes
-answered a next ws bytes after n e = cc
+-- what is told, with its code and its bytes
+told-so : (t u : Told) (next : Watcher) (ws bytes after : List ℕ) (n : ℕ) → t ≡ u
+    → (n ≡ toldCode t) × (after ≡ keptUnless t (written next) bytes) → (n, after, ws) ≡ toldBytes u next ws bytes
+unfolding toldBytes
+told-so t u next ws bytes after n g e = cc
 
-pub feed-right : (bytes piece ws ws′ after : List ℕ) (w : Watcher) (s : Fed) (n : ℕ) → length bytes ≡ stateBytes
-    → w ≡ stateIn bytes → (s, ws′) ≡ feedOf w piece ws
-    → (n ≡ answerCode (s .answer)) × (after ≡ keptUnless (s .answer) (written (s .next)) bytes)
+pub feed-right : (bytes piece ws ws′ after : List ℕ) (w : Watcher) (s : Fed) (t : Told) (n : ℕ)
+    → length bytes ≡ stateBytes → w ≡ stateIn bytes → (s, ws′) ≡ feedOf w piece ws → t ≡ toldOf (s .answer)
+    → (n ≡ toldCode t) × (after ≡ keptUnless t (written (s .next)) bytes)
     → (n, after, ws′) ≡ feedBytes bytes piece ws
 unfolding feedBytes fedBytes
-feed-right bytes piece ws ws′ after w s n h e f m =
+feed-right bytes piece ws ws′ after w s t n h e f g m =
     let fed : (s, ws′) ≡ feedOf (stateIn bytes) piece ws = f ∙ ap (λ v. feedOf v piece ws) e in
-    answered (s .answer) (s .next) ws′ bytes after n m ∙ ap (λ o. fedBytes o bytes) fed ∙ right-one bytes _ _ h
+    told-so t _ (s .next) ws′ bytes after n g m ∙ ap (λ o. fedBytes o bytes) fed ∙ right-one bytes _ _ h
 
 pub close-wrong : (bytes ws : List ℕ) → (length bytes ≡ stateBytes → ⊥)
     → (stateLength, bytes, ws) ≡ closeBytes bytes ws
 unfolding closeBytes
 close-wrong bytes ws h = wrong-one bytes _ _ h
 
-pub close-right : (bytes ws ws′ after : List ℕ) (w : Watcher) (s : Ended) (a : Answer) (n : ℕ)
-    → length bytes ≡ stateBytes → w ≡ stateIn bytes → (s, ws′) ≡ closeOf w ws → a ≡ asAnswer (s .answer)
-    → (n ≡ answerCode a) × (after ≡ keptUnless a (written (s .next)) bytes)
+pub close-right : (bytes ws ws′ after : List ℕ) (w : Watcher) (s : Ended) (t : Told) (n : ℕ)
+    → length bytes ≡ stateBytes → w ≡ stateIn bytes → (s, ws′) ≡ closeOf w ws → t ≡ toldAt (s .answer)
+    → (n ≡ toldCode t) × (after ≡ keptUnless t (written (s .next)) bytes)
     → (n, after, ws′) ≡ closeBytes bytes ws
 unfolding closeBytes endedBytes
-close-right bytes ws ws′ after w s a n h e f g m =
+close-right bytes ws ws′ after w s t n h e f g m =
     let ended : (s, ws′) ≡ closeOf (stateIn bytes) ws = f ∙ ap (λ v. closeOf v ws) e in
-    answered a (s .next) ws′ bytes after n m ∙ ap (λ x. answeredBytes x (s .next) ws′ bytes) g
-    ∙ ap (λ o. endedBytes o bytes) ended ∙ right-one bytes _ _ h
+    told-so t _ (s .next) ws′ bytes after n g m ∙ ap (λ o. endedBytes o bytes) ended ∙ right-one bytes _ _ h
 
 pub horizon-wrong : (bytes : List ℕ) → (length bytes ≡ stateBytes → ⊥) → horizonCode never ≡ horizonBytes bytes
 unfolding horizonBytes

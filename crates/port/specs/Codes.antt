@@ -10,8 +10,9 @@ use Rattle.watcher.specs.declared.state.Answer.{Answer}
 use Rattle.watcher.specs.declared.state.Answer.the-variants as answer
 use Rattle.watcher.specs.declared.state.End.{End}
 use Rattle.watcher.specs.declared.state.End.the-variants as end
-use Rattle.watcher.specs.Numbers.{verdictValue, refusalNumber}
-use Rattle.watcher.specs.Runs.{decided}
+use Rattle.watcher.specs.Numbers.{verdictValue, refusalNumber, decided}
+use Rattle.port.specs.declared.codes.Told.{Told}
+use Rattle.port.specs.declared.codes.Told.the-variants.{Said, Refused}
 
 -- refusals of the exports' own: codes that are not one for each piece of the log, and a state that is not 280 bytes
 abbrev pub codesLength : ℕ
@@ -33,17 +34,25 @@ unfoldable pub foundCode : Found → ℕ
 foundCode found.Fine = 0
 foundCode (found.Refused r) = refusalNumber r
 
-unfoldable pub answerCode : Answer → ℕ
-answerCode (answer.Accepted report) = wordCode (report .word)
-answerCode (answer.Refused r) = refusalNumber r
+-- what the answer to a record tells, and the answer to closing: a verdict is the word that says the same
+unfoldable pub toldOf : Answer → Told
+toldOf (answer.Accepted report) = Said (report .word)
+toldOf (answer.Refused r) = Refused r
 
--- the answer to closing as one to a record: a verdict is the word that says the same
-unfoldable pub asAnswer : End → Answer
-asAnswer (end.Closed v) = answer.Accepted (record { word = decided (verdictValue v) })
-asAnswer (end.Refused r) = answer.Refused r
+unfoldable pub toldAt : End → Told
+toldAt (end.Closed v) = Said (decided (verdictValue v))
+toldAt (end.Refused r) = Refused r
+
+-- the code of what is told
+unfoldable pub toldCode : Told → ℕ
+toldCode (Said w) = wordCode w
+toldCode (Refused r) = refusalNumber r
+
+unfoldable pub answerCode : Answer → ℕ
+answerCode a = toldCode (toldOf a)
 
 unfoldable pub endCode : End → ℕ
-endCode e = answerCode (asAnswer e)
+endCode e = toldCode (toldAt e)
 
 -- a horizon in minutes; the largest number where there is none
 unfoldable pub horizonCode : Horizon → ℕ

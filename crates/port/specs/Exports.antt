@@ -7,12 +7,12 @@ use lib.ListN.{length}
 use Rattle.meaning.specs.Horizon.{never}
 use Rattle.watcher.specs.declared.state.Watcher.{Watcher}
 use Rattle.watcher.specs.declared.state.Started.{Started}
-use Rattle.watcher.specs.declared.state.Answer.{Answer}
-use Rattle.watcher.specs.declared.state.Answer.the-variants.{Accepted, Refused}
 use Rattle.watcher.specs.declared.state.Fed.{Fed}
 use Rattle.watcher.specs.declared.state.Ended.{Ended}
 use Rattle.watcher.specs.Calls.{startOf, feedOf, feedRefusal, closeOf, waitOf}
-use Rattle.port.specs.Codes.{stateLength, foundCode, answerCode, asAnswer, horizonCode}
+use Rattle.port.specs.declared.codes.Told.{Told}
+use Rattle.port.specs.declared.codes.Told.the-variants.{Said, Refused}
+use Rattle.port.specs.Codes.{stateLength, foundCode, toldOf, toldAt, toldCode, horizonCode}
 use Rattle.port.specs.Layout.{stateBytes, written, stateIn}
 
 -- bytes that are no state
@@ -32,26 +32,26 @@ unfoldable pub refusalBytes : (bytes piece ws : List ℕ) → ℕ
 refusalBytes bytes piece ws =
     cond (wrongState bytes) stateLength (foundCode (feedRefusal (stateIn bytes) piece ws))
 
--- the bytes after an answer: the next state, or as they were where it is a refusal
-unfoldable pub keptUnless : Answer → (next bytes : List ℕ) → List ℕ
-keptUnless (Accepted report) next bytes = next
+-- the bytes after what is told: the next state, or as they were where it is a refusal
+unfoldable pub keptUnless : Told → (next bytes : List ℕ) → List ℕ
+keptUnless (Said w) next bytes = next
 keptUnless (Refused r) next bytes = bytes
 
--- an answer's code, with the bytes and the work area after it
-unfoldable pub answeredBytes : Answer → Watcher → (ws bytes : List ℕ) → ℕ × List ℕ × List ℕ
-answeredBytes a next ws bytes = (answerCode a, keptUnless a (written next) bytes, ws)
+-- the code of what is told, with the bytes and the work area after it
+unfoldable pub toldBytes : Told → Watcher → (ws bytes : List ℕ) → ℕ × List ℕ × List ℕ
+toldBytes t next ws bytes = (toldCode t, keptUnless t (written next) bytes, ws)
 
 -- feed
 unfoldable pub fedBytes : Fed × List ℕ → List ℕ → ℕ × List ℕ × List ℕ
-fedBytes s bytes = answeredBytes (s .0 .answer) (s .0 .next) (s .1) bytes
+fedBytes s bytes = toldBytes (toldOf (s .0 .answer)) (s .0 .next) (s .1) bytes
 
 unfoldable pub feedBytes : (bytes piece ws : List ℕ) → ℕ × List ℕ × List ℕ
 feedBytes bytes piece ws =
     cond (wrongState bytes) (stateLength, bytes, ws) (fedBytes (feedOf (stateIn bytes) piece ws) bytes)
 
--- close: its answer counts as one to a record
+-- close
 unfoldable pub endedBytes : Ended × List ℕ → List ℕ → ℕ × List ℕ × List ℕ
-endedBytes s bytes = answeredBytes (asAnswer (s .0 .answer)) (s .0 .next) (s .1) bytes
+endedBytes s bytes = toldBytes (toldAt (s .0 .answer)) (s .0 .next) (s .1) bytes
 
 unfoldable pub closeBytes : (bytes ws : List ℕ) → ℕ × List ℕ × List ℕ
 closeBytes bytes ws =

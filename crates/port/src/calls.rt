@@ -1,18 +1,19 @@
 // The watcher call by call, with its state in lent bytes.
 use crate::codes::FOREVER;
 use crate::codes::STATE_LENGTH;
-use crate::codes::answer_code;
-use crate::codes::as_answer;
+use crate::codes::Told;
 use crate::codes::found_code;
 use crate::codes::horizon_code;
+use crate::codes::told_at;
+use crate::codes::told_code;
+use crate::codes::told_of;
 use crate::layout::STATE_BYTES;
 use crate::layout::read_state;
 use crate::layout::write_state;
-use watcher::state::Answer;
 use watcher::state::Watcher;
 ghost use mathlib.Core.Path.{_≡_};
 ghost use lib.ListN.{length};
-ghost use Rattle.port.specs.Codes.{answerCode};
+ghost use Rattle.port.specs.Codes.{toldCode};
 ghost use Rattle.port.specs.Layout.{stateBytes, written};
 ghost use Rattle.port.specs.Exports.{keptUnless};
 ghost use Rattle.port.specs.Clauses.{StartClause, WouldRefuseClause, FeedClause, CloseClause, HorizonClause};
@@ -50,19 +51,19 @@ pub extern "C" fn hunchcold_would_refuse(bytes: &[u8], piece: &[u8], area: &[u64
     found_code(state.would_refuse(piece, area))
 }
 
-// The code of an answer; the next state is written unless it is a refusal.
-fn write_answer(answer: Answer, next: Watcher, bytes: &mut [u8]) -> u8
+// The code of what is told; the next state is written unless that is a refusal.
+fn write_told(told: Told, next: Watcher, bytes: &mut [u8]) -> u8
     requires { ⌜ length (now bytes) ≡ stateBytes ⌝ }
-    ensures { λ r. ⌜ (r ≡ answerCode answer)
-        × (now (bytes .exit) ≡ keptUnless answer (written next) (now (bytes .entry))) ⌝ }
+    ensures { λ r. ⌜ (r ≡ toldCode told)
+        × (now (bytes .exit) ≡ keptUnless told (written next) (now (bytes .entry))) ⌝ }
 {
-    let code = answer_code(answer);
-    match answer {
-        Answer::Accepted(_) => {
+    let code = told_code(told);
+    match told {
+        Told::Said(_) => {
             write_state(next, bytes);
             code
         }
-        Answer::Refused(_) => code,
+        Told::Refused(_) => code,
     }
 }
 
@@ -79,7 +80,7 @@ pub extern "C" fn hunchcold_feed(bytes: &mut [u8], piece: &[u8], area: &mut [u64
     let fed = state.feed(piece, area);
     let answer = fed.answer;
     let next = fed.next;
-    write_answer(answer, next, bytes)
+    write_told(told_of(answer), next, bytes)
 }
 
 // Close the log.
@@ -94,7 +95,7 @@ pub extern "C" fn hunchcold_close(bytes: &mut [u8], area: &mut [u64]) -> u8
     let ended = state.close(area);
     let end = ended.answer;
     let next = ended.next;
-    write_answer(as_answer(end), next, bytes)
+    write_told(told_at(end), next, bytes)
 }
 
 // How long the rule can stay open, in minutes.

@@ -3,12 +3,17 @@ use watcher::state::Answer;
 use watcher::state::End;
 use watcher::state::Found;
 use watcher::state::Refusal;
-use watcher::state::Report;
 use watcher::state::Wait;
 use watcher::state::Word;
 ghost use mathlib.Core.Path.{_≡_};
 ghost use Rattle.watcher.specs.Numbers.{refusalNumber, horizonFor};
-ghost use Rattle.port.specs.Codes.{wordCode, foundCode, answerCode, asAnswer, horizonCode};
+ghost use Rattle.port.specs.Codes.{wordCode, foundCode, toldOf, toldAt, toldCode, horizonCode};
+
+// What an answer tells: a word, or a refusal.
+pub(crate) enum Told {
+    Said(Word),
+    Refused(Refusal),
+}
 
 // Codes that are not one for each piece of the log.
 pub(crate) const CODES_LENGTH: u8 = 90;
@@ -47,29 +52,39 @@ pub(crate) fn found_code(found: Found) -> u8
     }
 }
 
-// The code of an answer.
-pub(crate) fn answer_code(answer: Answer) -> u8
-    ensures { λ r. ⌜ r ≡ answerCode answer ⌝ }
+// What the answer to a record tells.
+pub(crate) fn told_of(answer: Answer) -> Told
+    ensures { λ r. ⌜ r ≡ toldOf answer ⌝ }
 {
     match answer {
         Answer::Accepted(report) => {
             let word = report.word;
-            word_code(word)
+            Told::Said(word)
         }
-        Answer::Refused(refusal) => refusal_code(refusal),
+        Answer::Refused(refusal) => Told::Refused(refusal),
     }
 }
 
-// The answer to closing as one to a record: a verdict is the word that says the same.
-pub(crate) fn as_answer(end: End) -> Answer
-    ensures { λ r. ⌜ r ≡ asAnswer end ⌝ }
+// What the answer to closing tells: a verdict is the word that says the same.
+pub(crate) fn told_at(end: End) -> Told
+    ensures { λ r. ⌜ r ≡ toldAt end ⌝ }
 {
     match end {
         End::Closed(verdict) => {
             let word = verdict.word();
-            Answer::Accepted(Report { word })
+            Told::Said(word)
         }
-        End::Refused(refusal) => Answer::Refused(refusal),
+        End::Refused(refusal) => Told::Refused(refusal),
+    }
+}
+
+// The code of what is told.
+pub(crate) fn told_code(told: Told) -> u8
+    ensures { λ r. ⌜ r ≡ toldCode told ⌝ }
+{
+    match told {
+        Told::Said(word) => word_code(word),
+        Told::Refused(refusal) => refusal_code(refusal),
     }
 }
 

@@ -11,6 +11,8 @@ pub mod Breaking
 pub mod Horizons
 pub mod Testing
 pub mod TurnLaws
+pub mod Reports
 pub mod Turning
+pub mod Lengths
 pub mod OnlyOne
 pub mod Machines

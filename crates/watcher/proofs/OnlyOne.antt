@@ -21,7 +21,8 @@ use Rattle.watcher.specs.declared.state.Limits.{Limits}
 use Rattle.watcher.specs.Clauses.{LimitsClause, IsRefusedClause, WordClause, LastClause, ZeroStateClause}
 use Rattle.watcher.specs.Clauses.{CheckListsClause, NumberClause}
 use Rattle.watcher.specs.Clauses.{WrongRecordClause, TimeOfClause, SignalWordClause}
-use Rattle.watcher.specs.Clauses.{StartClause, WouldRefuseClause, FeedClause, CloseClause, HorizonClause}
+use Rattle.watcher.specs.Clauses.{StartWouldRefuseClause, StartClause, WouldRefuseClause, FeedClause}
+use Rattle.watcher.specs.Clauses.{CloseClause, HorizonClause}
 use Rattle.watcher.proofs.Numbers.{horizon-one}
 
 pub only-limits : (o o′ : Limits) → LimitsClause o → LimitsClause o′ → o ≡ o′
@@ -56,6 +57,10 @@ only-time-of bytes = only-one _
 pub only-signal-word : (list : List ℕ) (signals : ℕ) (bytes : List ℕ) (o o′ : ℕ)
     → SignalWordClause list signals bytes o → SignalWordClause list signals bytes o′ → o ≡ o′
 only-signal-word list signals bytes = only-one _
+
+pub only-start-would-refuse : (rule signals ws : List ℕ) (o o′ : Found) → StartWouldRefuseClause rule signals ws o
+    → StartWouldRefuseClause rule signals ws o′ → o ≡ o′
+only-start-would-refuse rule signals ws = only-one _
 
 pub only-start : (rule signals ws : List ℕ) (o o′ : Started × List ℕ) → StartClause rule signals ws o
     → StartClause rule signals ws o′ → o ≡ o′

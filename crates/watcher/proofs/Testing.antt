@@ -170,13 +170,26 @@ area-long : (ws : List ℕ) → wrongArea ws ≡ false → length ws ≡ areaWor
 unfolding wrongArea
 area-long ws e = eqb-true (length ws) areaWords (not-false _ e)
 
+module _ (w : Watcher) (ws : List ℕ) where
+  state-whole : (rest : List Test) → firstRefusal (stateTests w ws ++ rest) ≡ Fine
+      → (length ws ≡ areaWords) × (brokenState w ws ≡ false)
+  unfolding stateTests
+  state-whole rest e =
+      let a = none-first (wrongArea ws) _ _ e in
+      (area-long ws (a .0), none-first (brokenState w ws) _ _ (a .1) .0)
+
+  pub feed-long : (bytes : List ℕ) → feedRefusal w bytes ws ≡ Fine → length ws ≡ areaWords
+  unfolding feedRefusal
+  feed-long bytes e = state-whole _ e .0
+
+  pub close-long : closeRefusal w ws ≡ Fine → length ws ≡ areaWords
+  unfolding closeRefusal
+  close-long e = state-whole _ e .0
+
 module _ (w : Watcher) (ws : List ℕ) (small : (i : ℕ) → getD ws i 0 < 2 ^ 64) where
   state-passed : (rest : List Test) → firstRefusal (stateTests w ws ++ rest) ≡ Fine → Passed w ws
-  unfolding stateTests
   state-passed rest e =
-      let a = none-first (wrongArea ws) _ _ e in
-      let b = none-first (brokenState w ws) _ _ (a .1) in
-      record { long = area-long ws (a .0); small = small; whole = b .0 }
+      let p = state-whole w ws rest e in record { long = p .0; small = small; whole = p .1 }
 
   pub feed-passed : (bytes : List ℕ) (f : Found) → f ≡ feedRefusal w bytes ws → f ≡ Fine → Passed w ws
   unfolding feedRefusal

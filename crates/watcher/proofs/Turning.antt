@@ -4,12 +4,9 @@ use mathlib.Core.Path.{_≡_, refl, sym, ap, ap₂, _∙_, subst}
 use mathlib.Core.Bool.{Bool}
 use mathlib.Core.List.{List, []}
 use Prim.Native.Nat.{ℕ, _≤_}
-use native.Mathlib.Omega.{arith}
 use lib.ListN.{length}
 use Rattle.forms.specs.Form.{Form}
-use Rattle.forms.specs.Words.{pack}
-use Rattle.forms.specs.Rows.{OfForm, whichConstant}
-use Rattle.forms.specs.Area.{rowAt}
+use Rattle.forms.specs.Rows.{whichConstant}
 use Rattle.forms.specs.declared.rows.Truth.{Truth}
 use Rattle.forms.specs.declared.rows.Truth.the-variants.{True, False, Open}
 use Rattle.meaning.specs.Rule.{Node, Entry}
@@ -18,8 +15,6 @@ use Rattle.rewriting.specs.declared.step.Plan.{Plan}
 use Rattle.rewriting.specs.declared.step.Moment.{Moment}
 use Rattle.rewriting.specs.Known.{wordsFor, knownIn, areaOf, Tidy}
 use Rattle.rewriting.specs.Plans.{Sound, ruleFor, entryFor, readIn, leftWith, fedWith, closedWith}
-use Rattle.rewriting.proofs.Placed.{row-areaOf, row-remainder}
-use Rattle.watcher.specs.declared.state.Word.{Word}
 use Rattle.watcher.specs.declared.state.Word.the-variants as said
 use Rattle.watcher.specs.declared.state.Phase.{Phase}
 use Rattle.watcher.specs.declared.state.Phase.the-variants as phase
@@ -27,6 +22,7 @@ use Rattle.watcher.specs.declared.state.Verdict.{Verdict}
 use Rattle.watcher.specs.declared.state.Refusal.{Refusal}
 use Rattle.watcher.specs.declared.state.Found.{Found}
 use Rattle.watcher.specs.declared.state.Found.the-variants as found
+use Rattle.watcher.specs.declared.state.Report.{Report}
 use Rattle.watcher.specs.declared.state.Answer.the-variants as answer
 use Rattle.watcher.specs.declared.state.End.the-variants as end
 use Rattle.watcher.specs.declared.state.Watcher.{Watcher}
@@ -39,9 +35,9 @@ use Rattle.watcher.specs.Records.{timeOf, signalWord, entryOf}
 use Rattle.watcher.specs.Numbers.{saying, verdictFor, stageOf, lastIn}
 use Rattle.watcher.specs.State.{ruleOf, parametersOf}
 use Rattle.watcher.specs.Calls.{freshState, zeroState, runningState, closedState, knownNext, knownNow}
-use Rattle.watcher.specs.Calls.{startRefusal, startWith, startOf, feedRefusal, feedWith, feedOf}
+use Rattle.watcher.specs.Calls.{startRefusal, startWith, startOf, reportOf, feedRefusal, feedWith, feedOf}
 use Rattle.watcher.specs.Calls.{closeRefusal, closeWith, closeOf}
-use Rattle.watcher.specs.inside.Turns.{planOn, planOf, planIn, rewrittenOf, endedState, begunOf}
+use Rattle.watcher.specs.inside.Turns.{planOn, planOf, planIn, rewrittenOf, ReportsOn, endedState, begunOf}
 
 -- the word of a form by which constant it is
 module _ (m : ℕ) (f : Form m) (t : Truth) (is : t ≡ whichConstant m f) where
@@ -125,19 +121,18 @@ closed-as w last b ws area plan e h =
     subst (λ p. (b, area) ≡ closedWith p (ruleFor (w .rule) p) (readIn p ws last)) e h
 
 -- an accepted feed
-pub advance-done : (w : Watcher) (bytes ws area row : List ℕ) (time signals : ℕ) (told : Word) (next : Watcher)
+pub advance-done : (w : Watcher) (bytes ws area : List ℕ) (time signals : ℕ) (report : Report) (next : Watcher)
     → parametersOf w ≤ 12 → time ≡ timeOf bytes → signals ≡ signalWord (w .list) (w .signals) bytes
-    → area ≡ rewrittenOf w (record { time = time; signals = signals }) ws → row ≡ rowAt area mostParameters
-    → OfForm (λ m f. saying (word m f)) row told
+    → area ≡ rewrittenOf w (record { time = time; signals = signals }) ws → ReportsOn area report
     → next ≡ runningState w (record { time = time; signals = signals })
-    → _≡_ {A = Fed × List ℕ} (record { answer = answer.Accepted (record { word = told }); next = next }, area)
+    → _≡_ {A = Fed × List ℕ} (record { answer = answer.Accepted report; next = next }, area)
     (feedWith found.Fine w bytes ws)
 unfolding feedWith rewrittenOf entryOf
-advance-done w bytes ws area row time signals told next few t s a r o n =
+advance-done w bytes ws area time signals report next few t s a o n =
     ap₂
     (λ (x : Fed) (y : List ℕ). (x, y))
-    (ap₂ (λ (x : Word) (y : Watcher). record { answer = answer.Accepted (record { word = x }); next = y })
-    says (n ∙ ap (runningState w) entry))
+    (ap₂ (λ (x : Report) (y : Watcher). record { answer = answer.Accepted x; next = y })
+    (o m (known e₀) few a ∙ ap (λ e. reportOf m (known e)) entry) (n ∙ ap (runningState w) entry))
     (a ∙ ap (λ e. areaOf mostParameters m ((known e) .past) ((known e) .remainder)) entry)
   where
     m : ℕ
@@ -154,15 +149,6 @@ advance-done w bytes ws area row time signals told next few t s a r o n =
 
     known : Entry → Known (parametersOf w)
     known e = knownNext m (ruleOf w) ws e (stageOf (w .phase))
-
-    packed : row ≡ pack m ((known e₀) .remainder)
-    packed =
-        r ∙ ap (λ (x : List ℕ). rowAt x mostParameters) a
-        ∙ row-areaOf mostParameters m ((known e₀) .past) ((known e₀) .remainder) mostParameters (omega arith)
-        ∙ row-remainder mostParameters m ((known e₀) .past) ((known e₀) .remainder)
-
-    says : told ≡ saying (word m ((known e₁) .remainder))
-    says = o m ((known e₀) .remainder) few packed ∙ ap (λ e. saying (word m ((known e) .remainder))) entry
 
 -- the last record by the phase
 module _ (p : Phase) where

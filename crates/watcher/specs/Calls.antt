@@ -16,6 +16,7 @@ use Rattle.watcher.specs.declared.state.Phase.the-variants as phase
 use Rattle.watcher.specs.declared.state.Refusal.the-variants as refusal
 use Rattle.watcher.specs.declared.state.Found.{Found}
 use Rattle.watcher.specs.declared.state.Found.the-variants as found
+use Rattle.watcher.specs.declared.state.Report.{Report}
 use Rattle.watcher.specs.declared.state.Answer.the-variants as answer
 use Rattle.watcher.specs.declared.state.End.the-variants as end
 use Rattle.watcher.specs.declared.state.Started.{Started}
@@ -148,17 +149,18 @@ closedState w b =
       phase = phase.Closed (verdictFor b);
     }
 
--- feed: the word of the remainder, and the rows of what is known after the record
+-- what an accepted record is told, by what is known after it: the word of the remainder
+unfoldable pub reportOf : (m : ℕ) → Known m → Report
+reportOf m s = record { word = saying (word m (s .remainder)) }
+
+-- feed: the report, and the rows of what is known after the record
 unfoldable pub feedWith : Found → Watcher → (bytes ws : List ℕ) → Fed × List ℕ
 feedWith (found.Refused r) w bytes ws = (record { answer = answer.Refused r; next = w }, ws)
 feedWith found.Fine w bytes ws =
     let m : ℕ = parametersOf w in
     let e : Entry = entryOf (w .list) (w .signals) bytes in
     let s : Known m = knownNext m (ruleOf w) ws e (stageOf (w .phase)) in (
-      record {
-        answer = answer.Accepted (record { word = saying (word m (s .remainder)) });
-        next = runningState w e;
-      },
+      record { answer = answer.Accepted (reportOf m s); next = runningState w e },
       areaOf mostParameters m (s .past) (s .remainder),
     )
 

@@ -19,10 +19,9 @@ use Rattle.watcher.specs.declared.state.Limits.{Limits}
 use Rattle.watcher.specs.Limits.{limitsOf}
 use Rattle.watcher.specs.Lists.{listsRefusal}
 use Rattle.watcher.specs.Records.{wrongRecord, timeOf, signalWord}
-use Rattle.watcher.specs.Numbers.{refusalNumber, verdictValue, stageOf, lastIn, horizonFor}
+use Rattle.watcher.specs.Numbers.{refusalNumber, decided, verdictValue, stageOf, lastIn, horizonFor}
 use Rattle.watcher.specs.State.{isRefused}
-use Rattle.watcher.specs.Calls.{zeroState, startOf, feedRefusal, feedOf, closeOf, waitOf}
-use Rattle.watcher.specs.Runs.{decided}
+use Rattle.watcher.specs.Calls.{zeroState, startRefusal, startOf, feedRefusal, feedOf, closeOf, waitOf}
 
 -- the limits, as numbers
 abbrev pub LimitsClause : Limits → Type 0
@@ -63,6 +62,10 @@ TimeOfClause bytes o = o ≡ timeOf bytes
 -- the signals that hold in a log record
 abbrev pub SignalWordClause : (list : List ℕ) (signals : ℕ) (bytes : List ℕ) → ℕ → Type 0
 SignalWordClause list signals bytes o = o ≡ signalWord list signals bytes
+
+-- whether a start would be refused
+abbrev pub StartWouldRefuseClause : (rule signals ws : List ℕ) → Found → Type 0
+StartWouldRefuseClause rule signals ws o = o ≡ startRefusal rule signals ws
 
 -- starting a watcher
 abbrev pub StartClause : (rule signals ws : List ℕ) → Started × List ℕ → Type 0

@@ -1,4 +1,5 @@
--- Document 01's number or value for each case of an answer.
+-- Document 01's number or value for each case of an answer, and what an answer says.
+use mathlib.Core.Path.{_≡_}
 use Prim.Native.Nat.{ℕ}
 use mathlib.Core.Bool.{Bool, true, false}
 use mathlib.Core.List.{List, map}
@@ -18,6 +19,12 @@ use Rattle.watcher.specs.declared.state.Refusal.the-variants.{RuleLength
 use Rattle.watcher.specs.declared.state.Refusal.the-variants.{SignalList, SignalMissing}
 use Rattle.watcher.specs.declared.state.Refusal.the-variants.{AreaLength, LogRecord, LogTime}
 use Rattle.watcher.specs.declared.state.Refusal.the-variants.{AlreadyClosed, NothingFed, BrokenState}
+use Rattle.watcher.specs.declared.state.Found.{Found}
+use Rattle.watcher.specs.declared.state.Found.the-variants as found
+use Rattle.watcher.specs.declared.state.Answer.{Answer}
+use Rattle.watcher.specs.declared.state.Answer.the-variants as answer
+use Rattle.watcher.specs.declared.state.End.{End}
+use Rattle.watcher.specs.declared.state.End.the-variants as end
 use Rattle.watcher.specs.Lists.{Test}
 
 -- the word of the meaning
@@ -31,6 +38,25 @@ unfoldable pub saying : words.Word → Word
 saying words.kept = word.Kept
 saying words.broken = word.Broken
 saying words.pending = word.Pending
+
+-- the word of a decided rule: kept if its value is true, broken if false
+unfoldable pub decided : Bool → Word
+decided true = word.Kept
+decided false = word.Broken
+
+-- the record was accepted with this word
+unfoldable pub Says : Answer → Word → Type 0
+Says (answer.Accepted report) w = report .word ≡ w
+Says (answer.Refused r) w = ⊥
+
+-- what an answer to a record, and to closing, says of the tests
+unfoldable pub foundIn : Answer → Found
+foundIn (answer.Accepted report) = found.Fine
+foundIn (answer.Refused r) = found.Refused r
+
+unfoldable pub foundAt : End → Found
+foundAt (end.Closed v) = found.Fine
+foundAt (end.Refused r) = found.Refused r
 
 -- the value that a verdict says the log has
 unfoldable pub verdictValue : Verdict → Bool

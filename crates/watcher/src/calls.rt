@@ -13,7 +13,6 @@ use crate::state::Ended;
 use crate::state::Fed;
 use crate::state::Found;
 use crate::state::Phase;
-use crate::state::Report;
 use crate::state::Started;
 use crate::state::Verdict;
 use crate::state::Wait;
@@ -21,9 +20,8 @@ use crate::state::Watcher;
 use crate::turns::begin_area;
 use crate::turns::close_area;
 use crate::turns::padded;
+use crate::turns::report_on;
 use crate::turns::rewrite_area;
-use crate::turns::word_of;
-use forms::area::load;
 use rewriting::step::Moment;
 ghost use mathlib.Core.Path.{_≡_};
 ghost use lib.ListN.{length};
@@ -35,7 +33,8 @@ ghost use Rattle.watcher.specs.Calls.{freshState, runningState};
 ghost use Rattle.watcher.specs.Calls.{startWith, feedWith, closeWith};
 ghost use Rattle.watcher.specs.inside.Turns.{Passed, endedState};
 ghost use Rattle.watcher.specs.Numbers.{verdictFor};
-ghost use Rattle.watcher.specs.Clauses.{StartClause, WouldRefuseClause, FeedClause, CloseClause, HorizonClause};
+ghost use Rattle.watcher.specs.Clauses.{StartWouldRefuseClause, StartClause, WouldRefuseClause, FeedClause};
+ghost use Rattle.watcher.specs.Clauses.{CloseClause, HorizonClause};
 
 // A fresh state with a rule and a list.
 fn fresh_state(rule: &[u8], signals: &[u8]) -> Watcher
@@ -118,9 +117,8 @@ fn advance(watcher: Watcher, bytes: &[u8], area: &mut [u64]) -> Fed
         signals: signal_word(&list, watcher.signals, bytes),
     };
     rewrite_area(watcher, new, area);
-    let word = word_of(load(area, Watcher::PARAMETERS));
     Fed {
-        answer: Answer::Accepted(Report { word }),
+        answer: Answer::Accepted(report_on(area)),
         next: running_state(watcher, new),
     }
 }
@@ -140,12 +138,19 @@ fn finish(watcher: Watcher, area: &mut [u64]) -> Ended
 }
 
 impl Watcher {
+    // Would this start be refused, and by which number.
+    pub fn start_would_refuse(rule: &[u8], signals: &[u8], area: &[u64]) -> Found
+        ensures { λ r. ⌜ StartWouldRefuseClause (now (rule .entry)) (now (signals .entry)) (now (area .entry)) r ⌝ }
+    {
+        start_refusal(rule, signals, area)
+    }
+
     // Start a watcher on a rule, a signal list and a work area.
     pub fn start(rule: &[u8], signals: &[u8], area: &mut [u64]) -> Started
         ensures { λ r. ⌜ StartClause (now (rule .entry)) (now (signals .entry)) (now (area .entry))
             (r, now (area .exit)) ⌝ }
     {
-        let found = start_refusal(rule, signals, area);
+        let found = Watcher::start_would_refuse(rule, signals, area);
         match found {
             Found::Refused(refusal) => Started {
                 found: Found::Refused(refusal),

@@ -1,8 +1,10 @@
 // What start, feed and close make of the lent area.
 use crate::lists::records_of;
 use crate::state::Phase;
+use crate::state::Report;
 use crate::state::Watcher;
 use crate::state::Word;
+use forms::area::load;
 use forms::rows::Truth;
 use forms::rows::which_constant;
 use ground::bytes::byte;
@@ -23,7 +25,7 @@ ghost use Rattle.watcher.specs.Numbers.{saying};
 ghost use Rattle.watcher.specs.Rules.{recordsOf};
 ghost use Rattle.watcher.specs.State.{ruleOf, parametersOf};
 ghost use Rattle.watcher.specs.Calls.{padded as paddedOf};
-ghost use Rattle.watcher.specs.inside.Turns.{planOn, planOf, planIn, Passed, rewrittenOf, begunOf};
+ghost use Rattle.watcher.specs.inside.Turns.{planOn, planOf, planIn, Passed, rewrittenOf, ReportsOn, begunOf};
 
 // A list with zeros behind it.
 pub(crate) fn padded(list: &[u8]) -> [u8; Watcher::LIST_BYTES]
@@ -37,7 +39,7 @@ pub(crate) fn padded(list: &[u8]) -> [u8; Watcher::LIST_BYTES]
 }
 
 // The word of a remainder.
-pub(crate) fn word_of(row: [u64; 64]) -> Word
+fn word_of(row: [u64; 64]) -> Word
     ensures { λ r. ⌜ OfForm (λ m f. saying (word m f)) row r ⌝ }
 {
     let truth = which_constant(row);
@@ -46,6 +48,14 @@ pub(crate) fn word_of(row: [u64; 64]) -> Word
         Truth::False => Word::Broken,
         Truth::Open => Word::Pending,
     }
+}
+
+// The report on an area after an accepted record.
+pub(crate) fn report_on(area: &[u64]) -> Report
+    ensures { λ r. ⌜ ReportsOn (now (area .entry)) r ⌝ }
+{
+    let word = word_of(load(area, Watcher::PARAMETERS));
+    Report { word }
 }
 
 // The plan of a rule with so many records.

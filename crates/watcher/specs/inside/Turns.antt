@@ -2,7 +2,7 @@
 use mathlib.Core.Path.{_≡_}
 use mathlib.Core.Bool.{false}
 use mathlib.Core.List.{List, []}
-use Prim.Native.Nat.{ℕ, _^_, _<_}
+use Prim.Native.Nat.{ℕ, _^_, _≤_, _<_}
 use lib.ListN.{length, getD}
 use Rattle.meaning.specs.Rule.{Node, parameters}
 use Rattle.meaning.specs.Words.{Known}
@@ -12,6 +12,7 @@ use Rattle.rewriting.specs.declared.step.Moment.{Moment}
 use Rattle.rewriting.specs.Decode.{ruleIn}
 use Rattle.rewriting.specs.Known.{areaOf}
 use Rattle.rewriting.specs.Plans.{entryFor}
+use Rattle.watcher.specs.declared.state.Report.{Report}
 use Rattle.watcher.specs.declared.state.Verdict.{Verdict}
 use Rattle.watcher.specs.declared.state.Phase.the-variants as phase
 use Rattle.watcher.specs.declared.state.Watcher.{Watcher}
@@ -19,7 +20,7 @@ use Rattle.watcher.specs.Limits.{mostParameters, areaWords}
 use Rattle.watcher.specs.Rules.{recordsOf}
 use Rattle.watcher.specs.Numbers.{stageOf}
 use Rattle.watcher.specs.State.{ruleOf, parametersOf, brokenState}
-use Rattle.watcher.specs.Calls.{knownNext}
+use Rattle.watcher.specs.Calls.{knownNext, reportOf}
 
 -- the plan of the rule in a list's first records, of a state's rule, and of a rule list
 abbrev pub planOn : List ℕ → ℕ → Plan
@@ -43,6 +44,12 @@ rewrittenOf w new ws =
     let m : ℕ = parametersOf w in
     let s : Known m = knownNext m (ruleOf w) ws (entryFor new) (stageOf (w .phase)) in
     areaOf mostParameters m (s .past) (s .remainder)
+
+-- a report tells what is known, whatever that is, where the area holds its rows
+abbrev pub ReportsOn : List ℕ → Report → Type 0
+ReportsOn ws report =
+    (m : ℕ) (s : Known m) → m ≤ mostParameters → ws ≡ areaOf mostParameters m (s .past) (s .remainder)
+    → report ≡ reportOf m s
 
 -- the state closed with a verdict
 unfoldable pub endedState : Watcher → Verdict → Watcher

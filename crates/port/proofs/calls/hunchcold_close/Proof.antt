@@ -14,11 +14,11 @@ read-state-requires c κs = search needs
 close-requires : tie.Need-close-requires
 close-requires c κs = search needs
 
-as-answer-requires : tie.Need-as-answer-requires
-as-answer-requires c κs = search needs
+told-at-requires : tie.Need-told-at-requires
+told-at-requires c κs = search needs
 
-write-answer-requires : tie.Need-write-answer-requires
-write-answer-requires c κs = search needs
+write-told-requires : tie.Need-write-told-requires
+write-told-requires c κs = search needs
 
 same-length : tie.Need-same-length
 same-length c = search needs
@@ -29,11 +29,11 @@ same-length-2 c = search needs
 returns-2 : tie.Need-returns-2
 returns-2 c =
     let write = c .before .before in
-    let answer = write .before .before in
-    let ended = answer .before .before .before .before in
+    let told = write .before .before in
+    let ended = told .before .before .before .before in
     let read = ended .before .before in
     close-right _ _ _ _ _ _ _ _ (read .before .before .if1 .left) (read .read-state .ensures) (ended .close .ensures)
-    (answer .as-answer .ensures) (write .write-answer .ensures)
+    (told .told-at .ensures) (write .write-told .ensures)
 
 pub hunchcold-close-spec : {M : Type 1} → statement M
 hunchcold-close-spec =
@@ -42,8 +42,8 @@ hunchcold-close-spec =
     returns
     read-state-requires
     close-requires
-    as-answer-requires
-    write-answer-requires
+    told-at-requires
+    write-told-requires
     same-length
     same-length-2
     returns-2)

@@ -14,8 +14,11 @@ read-state-requires c κs = search needs
 feed-requires : tie.Need-feed-requires
 feed-requires c κs = search needs
 
-write-answer-requires : tie.Need-write-answer-requires
-write-answer-requires c κs = search needs
+told-of-requires : tie.Need-told-of-requires
+told-of-requires c κs = search needs
+
+write-told-requires : tie.Need-write-told-requires
+write-told-requires c κs = search needs
 
 same-length : tie.Need-same-length
 same-length c = search needs
@@ -26,10 +29,11 @@ same-length-2 c = search needs
 returns-2 : tie.Need-returns-2
 returns-2 c =
     let write = c .before .before in
-    let fed = write .before .before .before .before .before in
+    let told = write .before .before in
+    let fed = told .before .before .before .before in
     let read = fed .before .before in
-    feed-right _ _ _ _ _ _ _ _ (read .before .before .if1 .left) (read .read-state .ensures) (fed .feed .ensures)
-    (write .write-answer .ensures)
+    feed-right _ _ _ _ _ _ _ _ _ (read .before .before .if1 .left) (read .read-state .ensures) (fed .feed .ensures)
+    (told .told-of .ensures) (write .write-told .ensures)
 
 pub hunchcold-feed-spec : {M : Type 1} → statement M
 hunchcold-feed-spec =
@@ -38,7 +42,8 @@ hunchcold-feed-spec =
     returns
     read-state-requires
     feed-requires
-    write-answer-requires
+    told-of-requires
+    write-told-requires
     same-length
     same-length-2
     returns-2)

@@ -1,4 +1,4 @@
--- `calls::advance` meets its contract: the record as the rule sees it, the area, the word.
+-- `calls::advance` meets its contract: the record as the rule sees it, the area, the report.
 -- Assumes nothing.
 use borrow.Author.Needs.{needs}
 use Rattle.watcher.proofs.Turning.{advance-done}
@@ -17,11 +17,8 @@ signal-word-requires c κs = search needs
 rewrite-area-requires : tie.Need-rewrite-area-requires
 rewrite-area-requires c κs = c .before .before .before .before .before .before .before .pre
 
-load-requires : tie.Need-load-requires
-load-requires c κs = search needs
-
-word-of-requires : tie.Need-word-of-requires
-word-of-requires c κs = search needs
+report-on-requires : tie.Need-report-on-requires
+report-on-requires c κs = search needs
 
 running-state-requires : tie.Need-running-state-requires
 running-state-requires c κs = search needs
@@ -31,13 +28,11 @@ same-length c = search needs
 
 returns : tie.Need-returns
 returns c =
-    let c₆ = c .before .before .before .before .before .before in
-    let c₈ = c₆ .before .before in
-    let c₁₀ = c₈ .before .before in
-    advance-done _ _ _ _ _ _ _ _ _ (c₆ .rewrite-area .ensures .1) (c₁₀ .time-of .ensures)
-    (c₈ .signal-word .ensures) (c₆ .rewrite-area .ensures .0) (c .before .before .load .ensures)
-    (c .before .word-of .ensures)
-    (c .running-state .ensures)
+    let c₅ = c .before .before .before .before .before in
+    let c₇ = c₅ .before .before in
+    let c₉ = c₇ .before .before in
+    advance-done _ _ _ _ _ _ _ _ (c₅ .rewrite-area .ensures .1) (c₉ .time-of .ensures) (c₇ .signal-word .ensures)
+    (c₅ .rewrite-area .ensures .0) (c .before .report-on .ensures) (c .running-state .ensures)
 
 pub advance-spec : {M : Type 1} → statement M
 advance-spec =
@@ -47,8 +42,7 @@ advance-spec =
     slice-aggregate-signal-word
     signal-word-requires
     rewrite-area-requires
-    load-requires
-    word-of-requires
+    report-on-requires
     running-state-requires
     same-length
     returns)

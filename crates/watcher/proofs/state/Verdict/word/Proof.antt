@@ -1,8 +1,7 @@
 -- `Verdict::word` goes by the verdict.
 -- Assumes nothing.
 use borrow.Author.Needs.{needs}
-use Rattle.watcher.specs.Numbers.{verdictValue}
-use Rattle.watcher.specs.Runs.{decided}
+use Rattle.watcher.specs.Numbers.{decided, verdictValue}
 use Rattle.watcher.proofs.state.Verdict.word.Statement.{statement}
 use Rattle.watcher.proofs.state.Verdict.word.Tie as tie
 

@@ -6,8 +6,8 @@ use Rattle.watcher.proofs.Turning.{start-refused-with, start-fine-with}
 use Rattle.watcher.proofs.state.Watcher.start.Statement.{statement}
 use Rattle.watcher.proofs.state.Watcher.start.Tie as tie
 
-start-refusal-requires : tie.Need-start-refusal-requires
-start-refusal-requires c κs = search needs
+start-would-refuse-requires : tie.Need-start-would-refuse-requires
+start-would-refuse-requires c κs = search needs
 
 enum-known-found : tie.Need-enum-known-found
 enum-known-found c = search needs
@@ -20,7 +20,7 @@ enum-told c = search needs
 
 begin-requires : tie.Need-begin-requires
 begin-requires c κs =
-    start-passed _ _ _ _ (c .before .before .before .start-refusal .ensures) (c .before .enum-told .given .1)
+    start-passed _ _ _ _ (c .before .before .before .start-would-refuse .ensures) (c .before .enum-told .given .1)
 
 same-length : tie.Need-same-length
 same-length c = search needs
@@ -28,7 +28,7 @@ same-length c = search needs
 returns : tie.Need-returns
 returns c =
     let c₄ = c .before .before .before .before in
-    start-refused-with _ _ _ _ (c₄ .start-refusal .ensures) _ _ (c .before .before .found .given .1)
+    start-refused-with _ _ _ _ (c₄ .start-would-refuse .ensures) _ _ (c .before .before .found .given .1)
     (c .zero-state .ensures)
 
 same-length-2 : tie.Need-same-length-2
@@ -38,14 +38,14 @@ returns-2 : tie.Need-returns-2
 returns-2 c =
     let c₄ = c .before .before .before .before in
     let c₆ = c₄ .before .before in
-    start-fine-with _ _ _ _ (c₆ .start-refusal .ensures) _ _ (c₄ .enum-told .given .1)
+    start-fine-with _ _ _ _ (c₆ .start-would-refuse .ensures) _ _ (c₄ .enum-told .given .1)
     (c .before .before .begin .ensures)
 
 pub start-spec : {M : Type 1} → statement M
 start-spec =
     tie.close
     (tie.spec
-    start-refusal-requires
+    start-would-refuse-requires
     enum-known-found
     zero-state-requires
     enum-told
