@@ -10,7 +10,7 @@ use forms::rows::fits;
 use forms::rows::names;
 use forms::rows::parameter;
 use rewriting::parts::signal;
-use rewriting::rule::count_at;
+use rewriting::rule::count_of;
 use rewriting::rule::parameters_in;
 use rewriting::rule::record_at;
 use rewriting::step::Moment;
@@ -169,10 +169,11 @@ fn here_at(rule: &[u8], plan: Plan, k: usize, first: usize, allowed: usize) -> H
     requires { ⌜ Sound (now rule) plan × (k < plan .records) × Before (ruleFor (now rule) plan) k first allowed ⌝ }
     ensures { λ r. ⌜ Tells (ruleFor (now (rule .entry)) plan) k r × Placed (plan .m) r ⌝ }
 {
+    let record = record_at(rule, k);
     Here {
-        record: record_at(rule, k),
+        record: record,
         first: first,
-        count: count_at(rule, k),
+        count: count_of(record),
         allowed: allowed,
     }
 }
