@@ -15,7 +15,7 @@ use Rattle.meaning.specs.Horizon.{larger, later, horizonOf, horizons, horizon, 
 use Rattle.meaning.specs.Rewriting.{put, onlyIf, formOf, formsOf, parameterTo, rowTo, nextRow, untilLater, derivedRow}
 use Rattle.meaning.specs.Rewriting.{derivedRows, sinceEarlier, pastRow, pastRows}
 use Rattle.meaning.specs.Words.{start, first, feed, close, wordFor, word, wordOf}
-use Rattle.rewriting.specs.Decode.{byteOf, intervalOf, nodeOf, nodeIn, ruleIn}
+use Rattle.rewriting.specs.Decode.{byteOf, endless, intervalOf, intervalFor, nodeOf, recordIn, nodeFor, nodeIn, ruleIn}
 use Rattle.watcher.specs.Numbers.{refusalNumber}
 use Rattle.watcher.specs.Rules.{recordsOf, wrongLength, usedBytes, uses, fairLimits, usedRight}
 use Rattle.watcher.specs.Rules.{byteBreaks, recordBreaks, ruleBreaks, sameRecord, hasTwins, manyParameters}
@@ -30,14 +30,16 @@ use Rattle.demands.specs.Examples.{allIn, table, passes, ruleA, ruleB}
 
 -- rule A has finite forward limits only, and rule B has not
 pub finite-a : AllFinite (readRule (ruleA 2))
-unfolding readRule ruleIn nodeIn nodeOf intervalOf byteOf recordsOf tab nodeAt Finite Bounded
+unfolding readRule ruleIn nodeIn recordIn nodeFor nodeOf intervalFor intervalOf endless byteOf recordsOf tab nodeAt
+    Finite Bounded
 finite-a zero = tt
 finite-a (suc zero) = tt
 finite-a (suc (suc zero)) = tt
 finite-a (suc (suc (suc k))) = tt
 
 pub open-b : AllFinite (readRule ruleB) → ⊥
-unfolding readRule ruleIn nodeIn nodeOf intervalOf byteOf recordsOf tab nodeAt Finite Bounded
+unfolding readRule ruleIn nodeIn recordIn nodeFor nodeOf intervalFor intervalOf endless byteOf recordsOf tab nodeAt
+    Finite Bounded
 open-b finite = finite 3
 
 pub examples : allIn passes table ≡ true
@@ -46,7 +48,8 @@ unfolding table passes fold someIn everyIn tab bit ofBits little constant parame
     untilAt sinceAt meaning values valueOf larger later horizonOf horizons horizon put onlyIf formOf formsOf
     parameterTo rowTo nextRow untilLater derivedRow derivedRows sinceEarlier pastRow pastRows start first feed close
     wordFor word refusalNumber byteOf recordsOf wrongLength usedBytes uses fairLimits usedRight byteBreaks
-    recordBreaks ruleBreaks sameRecord hasTwins intervalOf nodeOf nodeIn ruleIn signalBreaks wrongSignals namesMissing
-    limitOf wrongRecord timeOf temperatureOf windOf windMeets meets signalHolds signalWord entryOf firstRefusal isRefused wordOf manyParameters
-    listTests listsRefusal lastTime accepts logWith readRule parametersIn
+    recordBreaks ruleBreaks sameRecord hasTwins endless intervalOf intervalFor nodeOf recordIn nodeFor nodeIn ruleIn
+    signalBreaks wrongSignals namesMissing limitOf wrongRecord timeOf temperatureOf windOf windMeets meets signalHolds
+    signalWord entryOf firstRefusal isRefused wordOf manyParameters listTests listsRefusal lastTime accepts logWith
+    readRule parametersIn
 examples = refl

@@ -19,6 +19,7 @@ use Rattle.ground.proofs.Tabs.{length-tab, getD-tab, getD-tab-out, tab-cong}
 use Rattle.ground.proofs.Numbers.{ofBits-lt}
 use Rattle.ground.proofs.ByteLaws.{zeros-all}
 use Rattle.rewriting.specs.Decode.{byteOf, nodeIn, ruleIn}
+use Rattle.rewriting.proofs.Rules.{node-same}
 use Rattle.watcher.specs.Limits.{mostSignals, listBytes}
 use Rattle.watcher.specs.Signals.{limitOf}
 use Rattle.watcher.specs.Records.{timeOf, signalHolds, signalWord, entryOf}
@@ -61,10 +62,10 @@ module _ (list : List ℕ) (short : length list ≤ listBytes) where
   byte-padded k i = padded-at (8 * k + i)
 
   pub rule-padded : (n : ℕ) → ruleIn (padded list) n ≡ ruleIn list n
-  unfolding ruleIn nodeIn
+  unfolding ruleIn
   rule-padded n =
       tab-cong n (nodeIn (padded list)) (nodeIn list)
-      (λ k h. cc (byte-padded k 0, byte-padded k 1, byte-padded k 2, byte-padded k 4, byte-padded k 5))
+      (λ k h. node-same (padded list) list k (λ i l. byte-padded k i))
 
   -- and the same signals
   pub little-padded : (at n : ℕ) → little (padded list) at n ≡ little list at n

@@ -39,6 +39,12 @@ pub ends-sooner : (x : Horizon) (t u b : ℕ) → t ≤ u → Ends x u b → End
 ends-sooner (within x) t u b h e = omega arith
 ends-sooner never t u b h e = e
 
+-- what never ends does not end later either
+pub later-never : (v : Interval) → later v never ≡ never
+unfolding later
+later-never (between low high) = refl
+later-never (onward low) = refl
+
 -- what ends later by an interval ends from now on, and from each record inside the interval on
 pub ends-now : (v : Interval) (x : Horizon) (t b : ℕ) → Ends (later v x) t b → Ends x t b
 unfolding later

@@ -26,10 +26,11 @@ use Rattle.meaning.proofs.Ending.{endValue, derived-end}
 use Rattle.rewriting.specs.declared.row.Row.the-variants.{Derived}
 use Rattle.rewriting.specs.declared.step.Step.{Step}
 use Rattle.rewriting.specs.declared.step.Neighbour.the-variants.{None}
-use Rattle.rewriting.specs.Decode.{nodeOf, nodeFor}
+use Rattle.rewriting.specs.Decode.{nodeFor}
 use Rattle.rewriting.specs.inside.Steps.{neighbourOf, intervalIn, entryIn, rowBy, madeOf}
 use Rattle.rewriting.specs.inside.Endings.{Settled, OfEnd, OfEnds}
-use Rattle.rewriting.proofs.Nodes.{atShift, nodeAs, kind-quiet, kind-past}
+use Rattle.rewriting.proofs.ByKind.{kind-quiet, kind-past, node-signal, node-next, node-until}
+use Rattle.rewriting.proofs.Nodes.{atShift}
 
 module _ (step : Step) (past forms derived : List (Form (step .m))) (alone : step .neighbour ≡ None) (setting : ℕ)
     (settled : Settled (step .m) derived setting) (b : Bool) where
@@ -48,30 +49,28 @@ module _ (step : Step) (past forms derived : List (Form (step .m))) (alone : ste
       (nodeFor (step .record)) (step .shift)
       ∙ ap (constant (step .m)) (sym e)
 
-  end-as : (kind : ℕ) → step .record .kind ≡ kind → b ≡ endOf (nodeAs (step .record) kind) → Ends
-  unfolding nodeFor
-  end-as kind e h = end-is (h ∙ ap (λ k. endOf (nodeAs (step .record) k)) (sym e))
+  end-as : (x : Node) → nodeFor (step .record) ≡ x → b ≡ endOf x → Ends
+  end-as x e h = end-is (h ∙ ap endOf (sym e))
 
   pub end-signal : step .record .kind ≡ 3 → b ≡ bit (step .signals) (step .record .left) → Ends
-  unfolding endValue nodeOf entryIn holds
-  end-signal e h = end-as 3 e h
+  unfolding endValue entryIn holds
+  end-signal e h = end-as _ (node-signal (step .record) e) h
 
   -- constants, and, exclusive or have no parameter, and next has no record to look at
   pub end-quiet : 1 ≤ step .record .kind → step .record .kind < 7 → (step .record .kind ≡ 3 → ⊥) → b ≡ false → Ends
-  unfolding endValue nodeOf nodeFor
+  unfolding endValue
   end-quiet some less n h = go (decLt (step .record .kind) 6)
     where
       go : Dec (step .record .kind < 6) → Ends
-      go (yes l) =
-          end-is (kind-quiet (λ d. b ≡ endOf d) _ _ _ _ h h h h (step .record .kind) some l n)
-      go (no l) = end-as 6 (omega arith) h
+      go (yes l) = end-is (kind-quiet (λ d. b ≡ endOf d) (step .record) h h h h some l n)
+      go (no l) = end-as _ (node-next (step .record) (omega arith)) h
 
   -- until counts right only where 0 is in the shifted interval
   end-until : (test v : Bool) → step .record .kind ≡ 7
       → test ≡ inside (shifted (intervalIn step) (step .shift)) (step .here) (step .here)
       → v ≡ value (step .m) (formIn (step .m) forms (step .record .right)) (bit setting) → b ≡ (test && v) → Ends
-  unfolding endValue nodeOf entryIn intervalIn
-  end-until test v e i h q = end-as 7 e (q ∙ ap₂ _&&_ i h)
+  unfolding endValue entryIn intervalIn
+  end-until test v e i h q = end-as _ (node-until (step .record) e) (q ∙ ap₂ _&&_ i h)
 
   pub end-inside : (test : Bool) → step .record .kind ≡ 7
       → test ≡ inside (shifted (intervalIn step) (step .shift)) (step .here) (step .here) → test ≡ true
@@ -87,8 +86,8 @@ module _ (step : Step) (past forms derived : List (Form (step .m))) (alone : ste
 
   pub end-past : 8 ≤ step .record .kind
       → b ≡ value (step .m) (formIn (step .m) past (step .first + step .shift)) (bit setting) → Ends
-  unfolding endValue nodeFor
-  end-past a h = end-is (kind-past (λ d. b ≡ endOf d) _ _ _ _ h h (step .record .kind) a)
+  unfolding endValue
+  end-past a h = end-is (kind-past (λ d. b ≡ endOf d) (step .record) h h a)
 
 -- a setting with the value of one parameter more
 pub with-true : (setting p : ℕ) (b : Bool) → p < 64 → b ≡ true → (t : ℕ)

@@ -1,6 +1,7 @@
 pub mod Ends
 pub mod Shifts
 pub mod Neighbours
+pub mod ByKind
 pub mod Nodes
 pub mod RecordForms
 pub mod Rules

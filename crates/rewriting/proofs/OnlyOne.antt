@@ -5,10 +5,11 @@ use mathlib.Core.Bool.{Bool}
 use mathlib.Core.List.{List}
 use Prim.Native.Nat.{ℕ}
 use Rattle.ground.proofs.OnlyOne.{only-one}
+use Rattle.rewriting.specs.declared.step.Interval.{Interval}
 use Rattle.rewriting.specs.declared.step.Record.{Record}
 use Rattle.rewriting.specs.declared.step.Plan.{Plan}
 use Rattle.rewriting.specs.declared.step.Moment.{Moment}
-use Rattle.rewriting.specs.Clauses.{ByteOfClause, CountAtClause, ParametersInClause, RecordAtClause}
+use Rattle.rewriting.specs.Clauses.{ByteOfClause, RecordAtClause, EndlessClause, CountOfClause, ParametersInClause}
 use Rattle.rewriting.specs.Clauses.{SignalClause, FormsOfClause, FirstClause, FeedClause}
 use Rattle.rewriting.specs.Clauses.{ValueIfLastClause, CloseClause, BeginClause}
 use Rattle.rewriting.specs.Clauses.{BitsAboveClause, NotZeroFromClause, WrongRowsClause}
@@ -18,14 +19,18 @@ module _ (list : List ℕ) (k : ℕ) where
   pub only-byte-of : (i o o′ : ℕ) → ByteOfClause list k i o → ByteOfClause list k i o′ → o ≡ o′
   only-byte-of i = only-one _
 
-  pub only-count-at : (o o′ : ℕ) → CountAtClause list k o → CountAtClause list k o′ → o ≡ o′
-  only-count-at o o′ a b = only-one _ o o′ (a .0) (b .0)
-
   pub only-parameters-in : (o o′ : ℕ) → ParametersInClause list k o → ParametersInClause list k o′ → o ≡ o′
   only-parameters-in = only-one _
 
   pub only-record-at : (o o′ : Record) → RecordAtClause list k o → RecordAtClause list k o′ → o ≡ o′
   only-record-at = only-one _
+
+-- of an interval and of a record
+pub only-endless : (v : Interval) (o o′ : Bool) → EndlessClause v o → EndlessClause v o′ → o ≡ o′
+only-endless v = only-one _
+
+pub only-count-of : (d : Record) (o o′ : ℕ) → CountOfClause d o → CountOfClause d o′ → o ≡ o′
+only-count-of d o o′ a b = only-one _ o o′ (a .0) (b .0)
 
 -- whether a signal holds
 pub only-signal : (signals s : ℕ) (o o′ : Bool) → SignalClause signals s o → SignalClause signals s o′ → o ≡ o′

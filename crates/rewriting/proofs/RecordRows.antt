@@ -30,10 +30,10 @@ use Rattle.meaning.proofs.Blocks.{firstOf-fits}
 use Rattle.rewriting.specs.declared.step.Moment.{Moment}
 use Rattle.rewriting.specs.declared.step.Plan.{Plan}
 use Rattle.rewriting.specs.declared.step.Record.{Record}
-use Rattle.rewriting.specs.Decode.{byteOf, nodeOf, nodeIn, nodeFor}
+use Rattle.rewriting.specs.Decode.{byteOf, nodeIn, nodeFor}
 use Rattle.rewriting.specs.Known.{formAt, pastIn}
 use Rattle.rewriting.specs.Plans.{Sound, ruleFor, entryFor}
-use Rattle.rewriting.proofs.Nodes.{kind-quiet, kind-future, kind-past}
+use Rattle.rewriting.proofs.ByKind.{by-kind, kind-future, kind-past}
 use Rattle.rewriting.proofs.Rules.{length-ruleIn, node-in}
 use Rattle.rewriting.specs.declared.shape.Here.{Here}
 use Rattle.rewriting.specs.Shape.{looksForward, forward, wrongRow, wrongAt, wrongRows}
@@ -104,19 +104,10 @@ one-some own h = omega (arith, one-shl own h, pow-pos own)
 
 -- which kinds look forward
 forward-not : (d : Record) → 1 ≤ d .kind → d .kind < 6 → looksForward (nodeFor d) ≡ false
-unfolding looksForward nodeFor nodeOf
+unfolding looksForward
 forward-not d h l =
-    ⊎-elim (λ s. quiet (λ e. omega arith))
-    (λ s.
-    ⊎-elim
-    (λ u.
-    let e : d .kind ≡ 3 = omega arith in
-    ap (λ kind. looksForward (nodeOf kind (d .left) (d .right) (d .low) (d .high))) e)
-    (λ u. quiet (λ e. omega arith)) (less-or-not (d .kind) 4))
-    (less-or-not (d .kind) 3)
-  where
-    quiet : (d .kind ≡ 3 → ⊥) → looksForward (nodeFor d) ≡ false
-    quiet = kind-quiet (λ x. looksForward x ≡ false) _ _ _ _ refl refl refl refl (d .kind) h l
+    by-kind (λ x. looksForward x ≡ false) d (λ q. refl) (λ q. refl) (λ q. refl) (λ q. refl) (λ q. refl)
+    (λ q. absurd (omega (arith, q))) (λ q. absurd (omega (arith, q))) (λ q. refl) (λ o. refl)
 
 -- what rows of the next record may name
 module _ (here : Here) (m : ℕ) (placed : Placed m here) where
@@ -130,12 +121,12 @@ module _ (here : Here) (m : ℕ) (placed : Placed m here) where
   widen-before h = kept (forward-not (here .record) (placed .kind) h)
 
   pub widen-after : 8 ≤ here .record .kind → here .allowed ≡ widened here
-  unfolding looksForward nodeFor
-  widen-after h = kept (kind-past (λ d. looksForward d ≡ false) _ _ _ _ refl refl (here .record .kind) h)
+  unfolding looksForward
+  widen-after h = kept (kind-past (λ d. looksForward d ≡ false) (here .record) refl refl h)
 
   pub widen-own : 6 ≤ here .record .kind → here .record .kind < 8
       → bitOr (here .allowed) ((((1 * 2 ^ here .count) % 2 ^ 64 - 1) * 2 ^ here .first) % 2 ^ 64) ≡ widened here
-  unfolding widened looksForward nodeFor
+  unfolding widened looksForward
   widen-own h l =
       ap (bitOr (here .allowed))
       (ap (λ x. ((x - 1) * 2 ^ here .first) % 2 ^ 64) (one-shl (here .count) (omega arith))
@@ -159,7 +150,7 @@ module _ (here : Here) (m : ℕ) (placed : Placed m here) where
       less = omega (arith, pow-pos (here .count))
 
       looks : looksForward (nodeFor (here .record)) ≡ true
-      looks = kind-future (λ d. looksForward d ≡ true) _ _ _ _ refl refl (here .record .kind) h l
+      looks = kind-future (λ d. looksForward d ≡ true) (here .record) refl refl h l
 
 -- what is counted before the first record, and before the next
 pub before-none : (rule : List Node) → Before rule 0 0 0

@@ -22,9 +22,8 @@ use Rattle.forms.proofs.Packing.{pack-words, pack-inj}
 use Rattle.forms.proofs.Reading.{same-refl, same-eq}
 use Rattle.meaning.specs.Rule.{Node, nodeAt, firstOf, holds}
 use Rattle.rewriting.specs.declared.step.Moment.{Moment}
-use Rattle.rewriting.specs.Decode.{nodeOf, nodeFor}
 use Rattle.rewriting.specs.Plans.{entryFor}
-use Rattle.rewriting.proofs.Nodes.{kind-quiet, kind-future, kind-past}
+use Rattle.rewriting.proofs.ByKind.{kind-quiet, kind-future, kind-past, node-signal}
 use Rattle.rewriting.specs.declared.shape.Here.{Here}
 use Rattle.rewriting.specs.Shape.{forward, namesOther, wrongRow}
 use Rattle.rewriting.specs.inside.Shapes.{Tells}
@@ -131,24 +130,23 @@ module _ (here : Here) (n m : ℕ) (last : Moment) (row : List ℕ) (few : m ≤
   pub wrong-signal : (b r : Bool) (want : List ℕ) → here .record .kind ≡ 3
       → b ≡ bit (last .signals) (here .record .left) → want ≡ pack m (constant m b)
       → r ≡ every 64 (λ i. eqb (getD row i 0) (getD want i 0)) → not r ≡ wrong (nodeAt rule k)
-  unfolding wrongRow nodeFor nodeOf holds
+  unfolding wrongRow holds
   wrong-signal b r want e i w q =
       compared want (constant m b) r w q ∙ ap (λ x. not (same m (unpack m row) (constant m x))) i
-      ∙ ap (λ kind. wrong (nodeOf kind (here .record .left) (here .record .right) (here .record .low)
-      (here .record .high))) (sym e) ∙ ap wrong (t .node)
+      ∙ ap wrong (sym (node-signal (here .record) e) ∙ t .node)
 
   pub wrong-quiet : 1 ≤ here .record .kind → here .record .kind < 6 → (here .record .kind ≡ 3 → ⊥)
       → false ≡ wrong (nodeAt rule k)
-  unfolding wrongRow nodeFor
+  unfolding wrongRow
   wrong-quiet a b c =
-      kind-quiet (λ d. false ≡ wrong d) _ _ _ _ refl refl refl refl (here .record .kind) a b c ∙ ap wrong (t .node)
+      kind-quiet (λ d. false ≡ wrong d) (here .record) refl refl refl refl a b c ∙ ap wrong (t .node)
 
   pub wrong-self : (r : Bool) (want : List ℕ) → 6 ≤ here .record .kind → here .record .kind < 8
       → want ≡ pack m (parameter m (here .first + n)) → r ≡ every 64 (λ i. eqb (getD row i 0) (getD want i 0))
       → not r ≡ wrong (nodeAt rule k)
-  unfolding wrongRow nodeFor
+  unfolding wrongRow
   wrong-self r want a b w q =
-      kind-future (λ d. not r ≡ wrong d) _ _ _ _ own own (here .record .kind) a b ∙ ap wrong (t .node)
+      kind-future (λ d. not r ≡ wrong d) (here .record) own own a b ∙ ap wrong (t .node)
     where
       own : not r ≡ not (same m (unpack m row) (parameter m (firstOf rule k + n)))
       own =
@@ -158,8 +156,8 @@ module _ (here : Here) (n m : ℕ) (last : Moment) (row : List ℕ) (few : m ≤
   pub wrong-names : (r : Bool) → 8 ≤ here .record .kind
       → r ≡ some m (λ p. names m (unpack m row) p && not (bit (here .allowed) p))
       → r ≡ wrong (nodeAt rule k)
-  unfolding wrongRow nodeFor namesOther
-  wrong-names r a q = kind-past (λ d. r ≡ wrong d) _ _ _ _ own own (here .record .kind) a ∙ ap wrong (t .node)
+  unfolding wrongRow namesOther
+  wrong-names r a q = kind-past (λ d. r ≡ wrong d) (here .record) own own a ∙ ap wrong (t .node)
     where
       own : r ≡ some m (λ p. names m (unpack m row) p && not (forward rule k p))
       own =

@@ -24,9 +24,15 @@ use Rattle.rewriting.specs.inside.Steps.{neighbourOf, entryIn, Fair, own
 use Rattle.rewriting.specs.inside.Walks.{stepIn, Apart, madeRow, Puts, tableOf, rowsFor}
 use Rattle.rewriting.proofs.Counting.{firstOf-rule, parameters-done}
 use Rattle.rewriting.proofs.Making.{own-room, rows-apart, length-table, table-more, table-made}
-use Rattle.rewriting.proofs.Rules.{node-in, record-node}
+use Rattle.rewriting.proofs.Rules.{node-in, record-node, record-count}
 use Rattle.rewriting.proofs.Tables.{forms-held}
 use Rattle.rewriting.proofs.Written.{wrote-block, held-put, held-kept}
+
+-- a step's parameters are those of its record of the rule
+pub step-count : (list : List ℕ) (k first m : ℕ) (here : Moment) (near : Neighbour) (step : Step) (n : ℕ)
+    → step ≡ stepIn list k first m here near → n ≡ count (nodeFor (step .record)) → n ≡ count (nodeIn list k)
+step-count list k first m here near step n is e =
+    record-count list k (step .record) (ap (λ (s : Step). s .record) is) n e
 
 -- the c parameters of record k of the rule begin at first
 module _ (list : List ℕ) (plan : Plan) (sound : Sound list plan) (k first c : ℕ) (less : k < plan .records)

@@ -7,10 +7,11 @@ use Prim.Native.Nat.{ℕ, _≤_, min}
 use Rattle.ground.specs.Bits.{bit}
 use Rattle.meaning.specs.Rule.{count, parameters}
 use Rattle.meaning.specs.Words.{start, valueIfLast}
+use Rattle.rewriting.specs.declared.step.Interval.{Interval}
 use Rattle.rewriting.specs.declared.step.Record.{Record}
 use Rattle.rewriting.specs.declared.step.Plan.{Plan}
 use Rattle.rewriting.specs.declared.step.Moment.{Moment}
-use Rattle.rewriting.specs.Decode.{byteOf, recordIn, nodeIn, ruleIn}
+use Rattle.rewriting.specs.Decode.{byteOf, endless, recordIn, nodeFor, ruleIn}
 use Rattle.rewriting.specs.Known.{pastIn, areaOf}
 use Rattle.rewriting.specs.Plans.{tableWith, ruleFor, entryFor, readIn, leftWith, fedWith, closedWith}
 use Rattle.rewriting.specs.Shape.{bitsAbove, notZeroFrom, wrongRows}
@@ -19,17 +20,21 @@ use Rattle.rewriting.specs.Shape.{bitsAbove, notZeroFrom, wrongRows}
 abbrev pub ByteOfClause : (list : List ℕ) (k i : ℕ) → ℕ → Type 0
 ByteOfClause list k i o = o ≡ byteOf list k i
 
--- how many parameters record k has
-abbrev pub CountAtClause : (list : List ℕ) (k : ℕ) → ℕ → Type 0
-CountAtClause list k o = (o ≡ count (nodeIn list k)) × (o ≤ 256)
+-- record k
+abbrev pub RecordAtClause : (list : List ℕ) (k : ℕ) → Record → Type 0
+RecordAtClause list k o = o ≡ recordIn list k
+
+-- whether an interval has no upper end
+abbrev pub EndlessClause : Interval → Bool → Type 0
+EndlessClause v o = o ≡ endless (v .kind) (v .high)
+
+-- how many parameters a record has
+abbrev pub CountOfClause : Record → ℕ → Type 0
+CountOfClause d o = (o ≡ count (nodeFor d)) × (o ≤ 256)
 
 -- how many parameters the first n records have; of more than 64 the first 64 count
 abbrev pub ParametersInClause : (list : List ℕ) (n : ℕ) → ℕ → Type 0
 ParametersInClause list n o = o ≡ parameters (ruleIn list (min n 64))
-
--- record k
-abbrev pub RecordAtClause : (list : List ℕ) (k : ℕ) → Record → Type 0
-RecordAtClause list k o = o ≡ recordIn list k
 
 -- whether signal s holds
 abbrev pub SignalClause : (signals s : ℕ) → Bool → Type 0

@@ -1,5 +1,5 @@
 -- The rule that bytes hold (document 01, "Lists on disk").
-use mathlib.Core.Bool.{true, false, cond}
+use mathlib.Core.Bool.{Bool, true, false, cond}
 use mathlib.Core.List.{List}
 use Prim.Native.Nat.{ℕ, _+_, _*_}
 use lib.Dec.{eqb}
@@ -7,6 +7,7 @@ use lib.ListN.{getD}
 use Rattle.ground.specs.Fold.{tab}
 use Rattle.meaning.specs.Interval.{Interval, between, onward}
 use Rattle.meaning.specs.Rule.{Node, fixed, signal, both, either, next, until, previous, since}
+use Rattle.rewriting.specs.declared.step.Interval.{Interval as IntervalBytes}
 use Rattle.rewriting.specs.declared.step.Record.{Record}
 
 -- bytes of a record
@@ -17,39 +18,46 @@ recordBytes = 8
 unfoldable pub byteOf : List ℕ → ℕ → ℕ → ℕ
 byteOf list k i = getD list (recordBytes * k + i) 0
 
--- low to high; high 255 means no upper end
-unfoldable pub intervalOf : ℕ → ℕ → Interval
-intervalOf low high = cond (eqb high 255) (onward low) (between low high)
+-- whether an interval has no upper end: high is 255
+unfoldable pub endless : (kind high : ℕ) → Bool
+endless kind high = eqb high 255
 
--- the record of a kind, with its bytes
-unfoldable pub nodeOf : (kind left right low high : ℕ) → Node
-nodeOf kind left right low high =
+-- low to high, or low on with no upper end. Byte 3, the kind, is zero in the layout: with any other it would be read alike
+unfoldable pub intervalOf : (kind low high : ℕ) → Interval
+intervalOf kind low high = cond (endless kind high) (onward low) (between low high)
+
+-- the record of a kind, with its bytes and its interval
+unfoldable pub nodeOf : (kind left right : ℕ) → Interval → Node
+nodeOf kind left right v =
     cond (eqb kind 1) (fixed true)
     (cond (eqb kind 2) (fixed false)
     (cond (eqb kind 3) (signal left)
     (cond (eqb kind 4) (both left right)
     (cond (eqb kind 5) (either left right)
-    (cond (eqb kind 6) (next left (intervalOf low high))
-    (cond (eqb kind 7) (until left right (intervalOf low high))
-    (cond (eqb kind 8) (previous left (intervalOf low high)) (since left right (intervalOf low high)))))))))
+    (cond (eqb kind 6) (next left v)
+    (cond (eqb kind 7) (until left right v)
+    (cond (eqb kind 8) (previous left v) (since left right v))))))))
 
--- the record that bytes hold, as the code keeps it, and as a record of a rule
+-- the record that bytes hold, as the code keeps it
 unfoldable pub recordIn : List ℕ → ℕ → Record
 recordIn list k =
     record {
       kind = byteOf list k 0;
       left = byteOf list k 1;
       right = byteOf list k 2;
-      low = byteOf list k 4;
-      high = byteOf list k 5;
+      interval = record { kind = byteOf list k 3; low = byteOf list k 4; high = byteOf list k 5 };
     }
 
+-- an interval that the code keeps, and a record
+unfoldable pub intervalFor : IntervalBytes → Interval
+intervalFor v = intervalOf (v .kind) (v .low) (v .high)
+
 unfoldable pub nodeFor : Record → Node
-nodeFor d = nodeOf (d .kind) (d .left) (d .right) (d .low) (d .high)
+nodeFor d = nodeOf (d .kind) (d .left) (d .right) (intervalFor (d .interval))
 
 -- record k of a list
 unfoldable pub nodeIn : List ℕ → ℕ → Node
-nodeIn list k = nodeOf (byteOf list k 0) (byteOf list k 1) (byteOf list k 2) (byteOf list k 4) (byteOf list k 5)
+nodeIn list k = nodeFor (recordIn list k)
 
 -- the rule in the first n records of a list
 unfoldable pub ruleIn : List ℕ → ℕ → List Node

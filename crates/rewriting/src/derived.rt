@@ -22,7 +22,7 @@ fn next_row(step: Step, forms: &[u64], k: usize) -> [u64; 64]
     match neighbour {
         Neighbour::None => constant(false),
         Neighbour::At(other) => {
-            let test = inside(step.record.low, step.record.high, step.here, other);
+            let test = inside(step.record.interval, step.here, other);
             only_row(test, forms, k, step.record.left as usize)
         }
     }
@@ -37,7 +37,7 @@ fn until_later(step: Step, left: [u64; 64], area: &[u64], scratch: usize) -> [u6
     match neighbour {
         Neighbour::None => constant(false),
         Neighbour::At(other) => {
-            let shift = moved(step, other);
+            let shift = moved(step.record.interval, step.shift, step.here, other);
             let parameter = parameter_to(step.first, shift, step.m);
             let kept = put_in(left, area, scratch, step.first);
             and(kept, parameter)

@@ -1,7 +1,7 @@
 // The end of a log: every derived row is a constant there, so the parameters have a setting.
 use crate::interval::inside_now;
 use crate::parts::signal;
-use crate::rule::count_at;
+use crate::rule::count_of;
 use crate::step::Moment;
 use crate::step::Neighbour;
 use crate::step::Plan;
@@ -38,7 +38,7 @@ fn end_value(step: Step, forms: &[u64], k: usize, area: &[u64], setting: usize) 
         return false;
     }
     if kind == 7 {
-        if inside_now(step.record.low, step.record.high, step.shift) {
+        if inside_now(step.record.interval, step.shift, step.here) {
             return value(row_of(forms, 0, k, step.record.right as usize), setting);
         }
         return false;
@@ -86,7 +86,7 @@ fn last_setting(list: &[u8], plan: Plan, last: Moment, forms: &[u64], area: &[u6
     let mut first: usize = 0;
     for k in 0..plan.records {
         let step = step_at(list, k, first, plan.m, last, Neighbour::None);
-        let count = count_at(list, k);
+        let count = count_of(step.record);
         setting = end_values(step, count, forms, k, area, setting);
         first += count;
     }

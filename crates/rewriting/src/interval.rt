@@ -1,15 +1,23 @@
-// A record's interval, from its low and high byte: what is inside, and what the gap makes of a shift.
-use crate::step::Step;
+// The one account of a record's interval: what is inside, what the gap makes of a shift, how many shifts there are.
+use crate::step::Interval;
 ghost use mathlib.Core.Path.{_≡_};
-ghost use Prim.Native.Nat.{ℕ, _<_};
-ghost use Rattle.meaning.specs.Interval.{distance, inside as insideOf, shifted, moved as movedBy};
-ghost use Rattle.rewriting.specs.Decode.{intervalOf};
-ghost use Rattle.rewriting.specs.inside.Steps.{movedOf, Near, intervalIn, Fair};
+ghost use Prim.Native.Nat.{_≤_, _<_};
+ghost use Rattle.meaning.specs.Interval.{distance, inside as insideOf, shifted, shifts as shiftsOf, moved as movedBy};
+ghost use Rattle.rewriting.specs.Decode.{intervalFor};
+ghost use Rattle.rewriting.specs.Clauses.{EndlessClause};
+ghost use Rattle.rewriting.specs.inside.Steps.{movedOf, Near};
 
 // What a shift becomes.
 pub(crate) enum Shift {
     Gone,
     To(usize),
+}
+
+// Whether an interval has no upper end.
+pub fn endless(interval: Interval) -> bool
+    ensures { λ r. ⌜ EndlessClause interval r ⌝ }
+{
+    interval.high == 255
 }
 
 // The minutes between two times.
@@ -24,42 +32,52 @@ fn apart(here: u32, other: u32) -> usize
 }
 
 // Whether the other record, seen from the one here, is in the interval.
-pub(crate) fn inside(low: u8, high: u8, here: u32, other: u32) -> bool
-    ensures { λ r. ⌜ r ≡ insideOf (intervalOf low high) here other ⌝ }
+pub(crate) fn inside(interval: Interval, here: u32, other: u32) -> bool
+    ensures { λ r. ⌜ r ≡ insideOf (intervalFor interval) here other ⌝ }
 {
     let gap = apart(here, other);
-    if high == 255 {
-        return low as usize <= gap;
-    }
-    if gap < low as usize {
+    if gap < interval.low as usize {
         return false;
     }
-    gap <= high as usize
+    if endless(interval) {
+        return true;
+    }
+    gap <= interval.high as usize
 }
 
-// Whether a record is in its own interval with shift n.
-pub(crate) fn inside_now(low: u8, high: u8, n: usize) -> bool
-    ensures { λ r. ⌜ ((t : ℕ) → r ≡ insideOf (shifted (intervalOf low high) n) t t) ⌝ }
+// Whether the record here is in its own interval with a shift: 0 is in the shifted interval.
+pub(crate) fn inside_now(interval: Interval, shift: usize, here: u32) -> bool
+    ensures { λ r. ⌜ r ≡ insideOf (shifted (intervalFor interval) shift) here here ⌝ }
 {
-    low as usize <= n
+    interval.low as usize <= shift
 }
 
-// What the step's shift becomes by the gap between the record here and the other one.
-pub(crate) fn moved(step: Step, other: u32) -> Shift
-    requires { ⌜ Fair step ⌝ }
-    ensures { λ r. ⌜ (movedOf r ≡ movedBy (intervalIn step) (step .shift) (step .here) other) × Near r ⌝ }
+// What a shift becomes by the gap between the record here and the other one.
+pub(crate) fn moved(interval: Interval, shift: usize, here: u32, other: u32) -> Shift
+    requires { ⌜ shift < 256 ⌝ }
+    ensures { λ r. ⌜ (movedOf r ≡ movedBy (intervalFor interval) shift here other) × Near r ⌝ }
 {
-    let later = step.shift + apart(step.here, other);
-    let low = step.record.low as usize;
-    let high = step.record.high as usize;
-    if high == 255 {
+    let later = shift + apart(here, other);
+    if endless(interval) {
+        let low = interval.low as usize;
         if later < low {
             return Shift::To(later);
         }
         return Shift::To(low);
     }
-    if later <= high {
+    if later <= interval.high as usize {
         return Shift::To(later);
     }
     Shift::Gone
+}
+
+// How many shifts an interval has: 0 to high, or to low with no upper end.
+pub(crate) fn shifts(interval: Interval) -> usize
+    ensures { λ r. ⌜ (r ≡ shiftsOf (intervalFor interval)) × (r ≤ 256) ⌝ }
+{
+    if endless(interval) {
+        interval.low as usize + 1
+    } else {
+        interval.high as usize + 1
+    }
 }

@@ -2,7 +2,8 @@
 mod derived;
 pub mod ending;
 mod form;
-mod interval;
+pub mod interval;
+pub mod kind;
 pub mod parts;
 mod past;
 pub mod rewrite;

@@ -42,7 +42,7 @@ pub(crate) fn now_or(
     requires { ⌜ Fair step ⌝ }
     ensures { λ r. ⌜ NowOr step right (now (area .entry)) base second r ⌝ }
 {
-    let test = inside_now(step.record.low, step.record.high, step.shift);
+    let test = inside_now(step.record.interval, step.shift, step.here);
     let first = only_put(test, right, area, base, step.first);
     or(first, second)
 }

@@ -25,7 +25,7 @@ fn previous_row(step: Step, left: [u64; 64], area: &[u64], scratch: usize, held:
     match neighbour {
         Neighbour::None => constant(false),
         Neighbour::At(other) => {
-            let test = inside(step.record.low, step.record.high, step.here, other);
+            let test = inside(step.record.interval, step.here, other);
             let derived = put_in(left, area, scratch, held);
             only_put(test, derived, area, 0, step.first)
         }
@@ -47,7 +47,7 @@ fn since_earlier(
     match neighbour {
         Neighbour::None => constant(false),
         Neighbour::At(other) => {
-            let shift = moved(step, other);
+            let shift = moved(step.record.interval, step.shift, step.here, other);
             let derived = row_to(area, scratch, held, step.first, shift);
             let before = put_in(derived, area, 0, step.first);
             let kept = put_in(left, area, 0, step.first);

@@ -1,10 +1,15 @@
 // The records of a rule list, and how many parameters its rule has.
+use crate::interval::shifts;
+use crate::kind::AND;
+use crate::kind::FALSE;
+use crate::kind::NEXT;
+use crate::kind::PREVIOUS;
+use crate::kind::SIGNAL;
+use crate::kind::TRUE;
+use crate::kind::XOR;
+use crate::step::Interval;
 use crate::step::Record;
-ghost use mathlib.Core.Path.{_≡_};
-ghost use Prim.Native.Nat.{_≤_};
-ghost use Rattle.meaning.specs.Interval.{shifts};
-ghost use Rattle.rewriting.specs.Decode.{intervalOf};
-ghost use Rattle.rewriting.specs.Clauses.{ByteOfClause, CountAtClause, ParametersInClause, RecordAtClause};
+ghost use Rattle.rewriting.specs.Clauses.{ByteOfClause, RecordAtClause, CountOfClause, ParametersInClause};
 
 // Bytes of a record.
 pub const RECORD_BYTES: usize = 8;
@@ -26,26 +31,32 @@ pub fn byte_of(list: &[u8], k: usize, i: usize) -> u8
     list[first + i]
 }
 
-// How many shifts an interval has: 0 to `high`, or to `low` with no upper end.
-fn shifts_of(low: u8, high: u8) -> usize
-    ensures { λ r. ⌜ (r ≡ shifts (intervalOf low high)) × (r ≤ 256) ⌝ }
+// Record `k` of the list.
+pub fn record_at(list: &[u8], k: usize) -> Record
+    ensures { λ r. ⌜ RecordAtClause (now (list .entry)) k r ⌝ }
 {
-    if high == 255 {
-        low as usize + 1
-    } else {
-        high as usize + 1
+    let interval = Interval {
+        kind: byte_of(list, k, 3),
+        low: byte_of(list, k, 4),
+        high: byte_of(list, k, 5),
+    };
+    Record {
+        kind: byte_of(list, k, 0),
+        left: byte_of(list, k, 1),
+        right: byte_of(list, k, 2),
+        interval,
     }
 }
 
-// How many parameters record `k` has.
-pub fn count_at(list: &[u8], k: usize) -> usize
-    ensures { λ r. ⌜ CountAtClause (now (list .entry)) k r ⌝ }
+// How many parameters a record has.
+pub fn count_of(record: Record) -> usize
+    ensures { λ r. ⌜ CountOfClause «record» r ⌝ }
 {
-    let kind = byte_of(list, k, 0);
+    let kind = record.kind;
     match kind {
-        1 | 2 | 4 | 5 => 0,
-        3 | 6 | 8 => 1,
-        _ => shifts_of(byte_of(list, k, 4), byte_of(list, k, 5)),
+        TRUE | FALSE | AND | XOR => 0,
+        SIGNAL | NEXT | PREVIOUS => 1,
+        _ => shifts(record.interval),
     }
 }
 
@@ -56,20 +67,7 @@ pub fn parameters_in(list: &[u8], n: usize) -> usize
     let last = if n < RECORDS { n } else { RECORDS };
     let mut sum = 0;
     for k in 0..last {
-        sum += count_at(list, k);
+        sum += count_of(record_at(list, k));
     }
     sum
-}
-
-// Record `k` of the list.
-pub fn record_at(list: &[u8], k: usize) -> Record
-    ensures { λ r. ⌜ RecordAtClause (now (list .entry)) k r ⌝ }
-{
-    Record {
-        kind: byte_of(list, k, 0),
-        left: byte_of(list, k, 1),
-        right: byte_of(list, k, 2),
-        low: byte_of(list, k, 4),
-        high: byte_of(list, k, 5),
-    }
 }

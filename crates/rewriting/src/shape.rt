@@ -1,7 +1,7 @@
 // The rows that a state must have: the parts of check 12 that read the area. Past rows stand from place 0 on, the
 // remainder behind the places for them.
 use crate::parts::signal;
-use crate::rule::count_at;
+use crate::rule::count_of;
 use crate::rule::record_at;
 use crate::step::Moment;
 use crate::step::Plan;
@@ -161,10 +161,11 @@ fn here_at(list: &[u8], plan: Plan, k: usize, first: usize, allowed: usize) -> H
     requires { ⌜ Sound (now list) plan × (k < plan .records) × Before (ruleFor (now list) plan) k first allowed ⌝ }
     ensures { λ r. ⌜ Tells (ruleFor (now (list .entry)) plan) k r × Placed (plan .m) r ⌝ }
 {
+    let record = record_at(list, k);
     Here {
-        record: record_at(list, k),
+        record: record,
         first: first,
-        count: count_at(list, k),
+        count: count_of(record),
         allowed: allowed,
     }
 }

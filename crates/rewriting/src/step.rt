@@ -1,12 +1,18 @@
 // What one row is made from.
 
+// The interval of a record, from its bytes: which kind of interval it is, and its ends.
+pub struct Interval {
+    pub kind: u8,
+    pub low: u8,
+    pub high: u8,
+}
+
 // A record of a rule, from its bytes.
 pub struct Record {
     pub kind: u8,
     pub left: u8,
     pub right: u8,
-    pub low: u8,
-    pub high: u8,
+    pub interval: Interval,
 }
 
 // The neighbouring record of the log: there is none, or it has a time.

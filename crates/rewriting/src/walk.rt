@@ -3,7 +3,7 @@ use crate::form::form_row;
 use crate::row::Row;
 use crate::row::own_at;
 use crate::row::step_row;
-use crate::rule::count_at;
+use crate::rule::count_of;
 use crate::rule::record_at;
 use crate::step::Moment;
 use crate::step::Neighbour;
@@ -26,9 +26,10 @@ pub fn forms_of(list: &[u8], records: usize, m: usize, table: &mut [u64])
 {
     let mut first = 0;
     for k in 0..records {
-        let row = form_row(record_at(list, k), first, m, table, k);
+        let record = record_at(list, k);
+        let row = form_row(record, first, m, table, k);
         store(table, k, row);
-        first += count_at(list, k);
+        first += count_of(record);
     }
 }
 
@@ -96,7 +97,7 @@ pub(crate) fn rule_rows(
     let mut first = 0;
     for k in 0..plan.records {
         let step = step_at(list, k, first, plan.m, here, near);
-        let count = count_at(list, k);
+        let count = count_of(step.record);
         record_rows(row, step, count, forms, k, area, plan.places + 1, held);
         first += count;
     }

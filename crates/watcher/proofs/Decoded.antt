@@ -19,13 +19,14 @@ use Rattle.watcher.specs.declared.state.Found.{Found}
 use Rattle.watcher.specs.declared.state.Found.the-variants.{Fine, Refused}
 use Rattle.rewriting.specs.Decode.{byteOf}
 use Rattle.watcher.specs.Rules.{recordsOf, wrongLength, usedBytes, uses, fairLimits, usedRight}
-use Rattle.rewriting.specs.Decode.{nodeOf, nodeIn, ruleIn}
+use Rattle.rewriting.specs.Decode.{recordIn, nodeIn, ruleIn}
 use Rattle.watcher.specs.Rules.{byteBreaks, recordBreaks, ruleBreaks, hasTwins}
 use Rattle.watcher.specs.Signals.{wrongSignals, namesMissing}
 use Rattle.watcher.specs.Lists.{firstRefusal, listTests, listsRefusal}
 use Rattle.watcher.specs.Rules.{manyParameters}
 use Rattle.watcher.specs.Limits.{mostParameters}
-use Rattle.rewriting.proofs.Rules.{length-ruleIn, node-in, node-past}
+use Rattle.rewriting.proofs.Rules.{length-ruleIn, node-in, node-past, node-same}
+use Rattle.rewriting.proofs.ByKind.{by-kind}
 
 -- each test of the lists fails
 pub record Accepted (rule signals : List ℕ) : Type 0 where
@@ -130,31 +131,18 @@ Names c (until l r v) = Unit {0}
 Names c (previous l v) = Unit {0}
 Names c (since l r v) = Unit {0}
 
--- what holds of x where a number is j, and of y where it is above j
-pick : (P : Node → Type 0) (i j : ℕ) (x y : Node) → j ≤ i → (i ≡ j → P x) → (j < i → P y) → P (cond (eqb i j) x y)
-pick P i j x y h f g = go (eqb i j) refl
-  where
-    go : (b : Bool) → eqb i j ≡ b → P (cond b x y)
-    go true e = f (eqb-true i j e)
-    go false e = let n : i ≡ j → ⊥ = eqb-false i j e in g (omega arith)
-
 -- the record that bytes in the layout hold
 pub node-fine : (list : List ℕ) (k c : ℕ) → Laid list k → (byteOf list k 0 ≡ 3 → byteOf list k 1 < c)
     → Earlier k (nodeIn list k) × Names c (nodeIn list k)
-unfolding nodeIn nodeOf Earlier uses usedBytes
+unfolding nodeIn recordIn Earlier uses usedBytes
 node-fine list k c a named =
-    at 1 _ _ (a .low) (λ q. (tt, tt)) λ h. at 2 _ _ h (λ q. (tt, tt)) λ h. at 3 _ _ h (λ q. (tt, named q)) λ h.
-    at 4 _ _ h (λ q. (children q refl, tt)) λ h. at 5 _ _ h (λ q. (children q refl, tt)) λ h.
-    at 6 _ _ h (λ q. (left q refl, tt)) λ h. at 7 _ _ h (λ q. (children q refl, tt)) λ h.
-    at 8 _ _ h (λ q. (left q refl, tt)) λ h. let q : kind ≡ 9 = omega arith in (children q refl, tt)
+    by-kind (λ x. Earlier k x × Names c x) (recordIn list k) (λ q. (tt, tt)) (λ q. (tt, tt)) (λ q. (tt, named q))
+    (λ q. (children q refl, tt)) (λ q. (children q refl, tt)) (λ q. (left q refl, tt)) (λ q. (children q refl, tt))
+    (λ q. (left q refl, tt))
+    (λ o. let q : kind ≡ 9 = omega (arith, a .high, o (a .low)) in (children q refl, tt))
   where
     kind : ℕ
     kind = byteOf list k 0
-
-    at : (j : ℕ) (x y : Node) → j ≤ kind → (kind ≡ j → Earlier k x × Names c x)
-        → (j < kind → Earlier k y × Names c y)
-        → Earlier k (cond (eqb kind j) x y) × Names c (cond (eqb kind j) x y)
-    at j x y h f g = pick (λ z. Earlier k z × Names c z) kind j x y h f g
 
     left : {j : ℕ} → kind ≡ j → (ltb 3 j && uses j 1) ≡ true → byteOf list k 1 < k
     left {j} q u =
@@ -195,15 +183,7 @@ module _ (list rest : List ℕ) where
   byte-before k i h l = List·getD-append list rest 0 (8 * k + i) (omega arith)
 
   pub node-before : (k : ℕ) → k < recordsOf list → nodeIn (list ++ rest) k ≡ nodeIn list k
-  unfolding nodeIn
-  node-before k h =
-      cc (
-        byte-before k 0 h (omega arith),
-        byte-before k 1 h (omega arith),
-        byte-before k 2 h (omega arith),
-        byte-before k 4 h (omega arith),
-        byte-before k 5 h (omega arith),
-      )
+  node-before k h = node-same (list ++ rest) list k (λ i l. byte-before k i h l)
 
   pub ruleIn-before : (n : ℕ) → n ≤ recordsOf list → ruleIn (list ++ rest) n ≡ ruleIn list n
   unfolding ruleIn

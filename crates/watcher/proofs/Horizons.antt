@@ -1,7 +1,7 @@
 -- Horizons as numbers: how a record's comes from those of the records before it, and the rule's.
 -- Assumes nothing.
 use mathlib.Core.Path.{_≡_, refl, sym, ap, _∙_, subst}
-use mathlib.Core.Bool.{Bool, true, false, cond}
+use mathlib.Core.Bool.{Bool, true, false}
 use mathlib.Core.List.{List}
 use Prim.Native.Nat.{ℕ, zero, suc, _+_, _-_, _*_, _≤_, _<_}
 use native.Mathlib.Nat.{le-antisymm}
@@ -11,16 +11,19 @@ use native.Mathlib.Omega.{arith}
 use lib.Dec.{eqb}
 use lib.ListN.{length, getD, set, replicate, List·getD-eq-default}
 use lib.Seq.{getD-set-same, getD-set-other}
-use borrow.Author.Tests.{eq-eqb, ne-eqb, eqb-true, eqb-false}
+use borrow.Author.Tests.{eqb-true, eqb-false}
 use Rattle.ground.proofs.Numbers.{zero-at}
-use Rattle.meaning.specs.Interval.{Interval, between, onward}
-use Rattle.meaning.specs.Rule.{Node, both, either, since}
+use Rattle.meaning.specs.Interval as interval
+use Rattle.meaning.specs.Rule.{Node}
 use Rattle.meaning.specs.Horizon.{Horizon, within, never, larger, later, horizonOf, horizons, horizon}
-use Rattle.meaning.proofs.Horizons.{length-horizons, horizons-low, horizons-new}
+use Rattle.meaning.proofs.Horizons.{later-never, length-horizons, horizons-low, horizons-new}
+use Rattle.rewriting.specs.declared.step.Interval.{Interval}
 use Rattle.rewriting.specs.declared.step.Record.{Record}
-use Rattle.rewriting.specs.Decode.{intervalOf, nodeOf, nodeIn, ruleIn, nodeFor}
+use Rattle.rewriting.specs.Decode.{intervalFor, nodeIn, ruleIn, nodeFor}
+use Rattle.rewriting.specs.Clauses.{EndlessClause}
 use Rattle.rewriting.proofs.Rules.{length-ruleIn, node-in}
-use Rattle.rewriting.proofs.Nodes.{nodeAs}
+use Rattle.rewriting.proofs.Ends.{later-onward, later-between}
+use Rattle.rewriting.proofs.ByKind.{over, by-kind, node-next, node-until, node-previous}
 use Rattle.watcher.specs.declared.state.Wait.the-variants.{Forever, Minutes}
 use Rattle.watcher.specs.declared.horizon.Sides.{Sides}
 use Rattle.watcher.specs.Numbers.{horizonFor}
@@ -72,56 +75,20 @@ module _ (a b : ℕ) where
   larger-down n m h (within i) never p q = absurd (m q)
   larger-down n m h (within i) (within j) p q = omega arith
 
-module _ (high a : ℕ) where
-  pub later-onward : high ≡ 255 → OfLater high a 0
-  unfolding later intervalOf codeOf
-  later-onward e low x p = rw (eq-eqb high 255 e)
+module _ (v : Interval) (b : Bool) (tells : EndlessClause v b) (a : ℕ) where
+  pub later-endless : b ≡ true → OfLater (intervalFor v) a 0
+  unfolding codeOf
+  later-endless e x p = ap codeOf (sym (later-onward v b tells x e))
 
-  pub later-none : a ≡ 0 → OfLater high a 0
-  unfolding later intervalOf codeOf
-  later-none e low x p =
-      sym (ap (λ z. codeOf (later (intervalOf low high) z)) (none-code x (sym p ∙ e)) ∙ go (intervalOf low high))
-    where
-      go : (v : Interval) → codeOf (later v never) ≡ 0
-      go (between l h) = refl
-      go (onward l) = refl
+  pub later-high : b ≡ false → (a ≡ 0 → ⊥) → OfLater (intervalFor v) a (v .high + a)
+  unfolding codeOf
+  later-high e n never p = absurd (n p)
+  later-high e n (within h) p =
+      let q : v .high + a ≡ v .high + h + 1 = omega arith in q ∙ ap codeOf (sym (later-between v b tells h e))
 
-  pub later-high : (high ≡ 255 → ⊥) → (a ≡ 0 → ⊥) → OfLater high a (high + a)
-  unfolding later intervalOf codeOf
-  later-high n m low never p = absurd (m p)
-  later-high n m low (within h) p = rw (ne-eqb high 255 n) (omega arith)
-
--- the records that wait for nothing, and those that wait as long as the larger of their sides
-module _ (earlier : List Horizon) (l r low high : ℕ) where
-  plain : (kind : ℕ) → 1 ≤ kind → kind < 4 → 1 ≡ codeOf (horizonOf earlier (nodeOf kind l r low high))
-  unfolding nodeOf horizonOf codeOf
-  plain zero h k = absurd (omega arith)
-  plain (suc zero) h k = refl
-  plain (suc (suc zero)) h k = refl
-  plain (suc (suc (suc zero))) h k = refl
-  plain (suc (suc (suc (suc kind)))) h k = absurd (omega arith)
-
-  joined : (kind : ℕ) → (kind ≡ 6 → ⊥) → (kind ≡ 7 → ⊥) → (kind ≡ 8 → ⊥) → (1 ≤ kind → 4 ≤ kind)
-      → codeOf (larger (getD earlier l never) (getD earlier r never))
-      ≡ codeOf (horizonOf earlier (nodeOf kind l r low high))
-  unfolding nodeOf horizonOf
-  joined kind a b c h =
-      rw (
-        ne-eqb kind 1 (λ e. omega (arith, h (omega (arith, e)))),
-        ne-eqb kind 2 (λ e. omega (arith, h (omega (arith, e)))),
-        ne-eqb kind 3 (λ e. omega (arith, h (omega (arith, e)))),
-        ne-eqb kind 6 a,
-        ne-eqb kind 7 b,
-        ne-eqb kind 8 c,
-      )
-      (go (eqb kind 4) (eqb kind 5))
-    where
-      go : (x y : Bool) → codeOf (larger (getD earlier l never) (getD earlier r never))
-          ≡ codeOf
-          (horizonOf earlier (cond x (both l r) (cond y (either l r) (since l r (intervalOf low high)))))
-      go true y = refl
-      go false true = refl
-      go false false = refl
+pub later-none : (v : interval.Interval) (a : ℕ) → a ≡ 0 → OfLater v a 0
+unfolding codeOf
+later-none v a e x p = sym (ap (λ z. codeOf (later v z)) (none-code x (sym p ∙ e)) ∙ ap codeOf (later-never v))
 
 -- the number of a record's horizon, by its kind
 module _ (d : Record) (codes : List ℕ) (k : ℕ) where
@@ -143,40 +110,50 @@ module _ (d : Record) (codes : List ℕ) (k : ℕ) where
   abbrev Answers : ℕ → Type 0
   Answers r = OfRecord d codes r × (r ≤ 256 * (k + 1))
 
-  of-kind : (kind r : ℕ) → d .kind ≡ kind
-      → ((earlier : List Horizon) → Coded codes earlier → r ≡ codeOf (horizonOf earlier (nodeAs d kind)))
-      → OfRecord d codes r
-  unfolding nodeFor
-  of-kind kind r e h earlier coded =
-      h earlier coded ∙ ap (λ x. codeOf (horizonOf earlier (nodeAs d x))) (sym e)
+  of-kind : (x : Node) (r : ℕ) → nodeFor d ≡ x
+      → ((earlier : List Horizon) → Coded codes earlier → r ≡ codeOf (horizonOf earlier x)) → OfRecord d codes r
+  of-kind x r e h earlier coded = h earlier coded ∙ ap (λ y. codeOf (horizonOf earlier y)) (sym e)
 
   -- constants and signals
   pub record-plain : 1 ≤ d .kind → d .kind < 4 → Answers 1
-  unfolding nodeFor
-  record-plain h l = (λ earlier coded. plain earlier _ _ _ _ (d .kind) h l, omega arith)
+  unfolding horizonOf codeOf
+  record-plain h l = (
+    λ earlier coded.
+        by-kind (λ x. 1 ≡ codeOf (horizonOf earlier x)) d (λ q. refl) (λ q. refl) (λ q. refl)
+        (λ q. absurd (omega (arith, q))) (λ q. absurd (omega (arith, q))) (λ q. absurd (omega (arith, q)))
+        (λ q. absurd (omega (arith, q))) (λ q. absurd (omega (arith, q))) (λ o. absurd (omega (arith, o h))),
+    omega arith,
+  )
 
   module _ (sides : Sides) (s : SidesOf d codes k sides) where
-    pub record-next : (r : ℕ) → d .kind ≡ 6 → OfLater (d .high) (sides .left) r → r ≤ sides .left + 256 → Answers r
-    unfolding horizonOf nodeOf
+    pub record-next : (r : ℕ) → d .kind ≡ 6 → OfLater (over d) (sides .left) r → r ≤ sides .left + 256 → Answers r
+    unfolding horizonOf
     record-next r e h l =
-        (of-kind 6 r e (λ earlier coded. h (d .low) _ (s .first ∙ coded (d .left))), omega (arith, s .low))
+        (of-kind _ r (node-next d e) (λ earlier coded. h _ (s .first ∙ coded (d .left))), omega (arith, s .low))
 
-    pub record-until : (r : ℕ) → d .kind ≡ 7 → OfLater (d .high) (sides .both) r → r ≤ sides .both + 256 → Answers r
-    unfolding horizonOf nodeOf
+    pub record-until : (r : ℕ) → d .kind ≡ 7 → OfLater (over d) (sides .both) r → r ≤ sides .both + 256 → Answers r
+    unfolding horizonOf
     record-until r e h l =
-        (of-kind 7 r e (λ earlier coded. h (d .low) _ (s .joins earlier coded)), omega (arith, s .most))
+        (of-kind _ r (node-until d e) (λ earlier coded. h _ (s .joins earlier coded)), omega (arith, s .most))
 
     pub record-previous : d .kind ≡ 8 → Answers (sides .left)
-    unfolding horizonOf nodeOf
-    record-previous e =
-        (of-kind 8 (sides .left) e (λ earlier coded. s .first ∙ coded (d .left)), omega (arith, s .low))
+    unfolding horizonOf
+    record-previous e = (
+      of-kind _ (sides .left) (node-previous d e) (λ earlier coded. s .first ∙ coded (d .left)),
+      omega (arith, s .low),
+    )
 
     -- and, exclusive or, since
     pub record-larger : (d .kind ≡ 6 → ⊥) → (d .kind ≡ 7 → ⊥) → (d .kind ≡ 8 → ⊥) → (1 ≤ d .kind → 4 ≤ d .kind)
         → Answers (sides .both)
-    unfolding nodeFor
+    unfolding horizonOf
     record-larger a b c h = (
-      λ earlier coded. s .joins earlier coded ∙ joined earlier _ _ _ _ (d .kind) a b c h,
+      λ earlier coded.
+          let made = s .joins earlier coded in
+          by-kind (λ x. sides .both ≡ codeOf (horizonOf earlier x)) d
+          (λ q. absurd (omega (arith, q, h (omega (arith, q))))) (λ q. absurd (omega (arith, q, h (omega (arith, q)))))
+          (λ q. absurd (omega (arith, q, h (omega (arith, q))))) (λ q. made) (λ q. made) (λ q. absurd (a q))
+          (λ q. absurd (b q)) (λ q. absurd (c q)) (λ o. made),
       omega (arith, s .most),
     )
 

@@ -1,13 +1,15 @@
 // How long a rule can stay open. In the table 0 stands for no limit, and h + 1 for h minutes.
 use crate::state::Wait;
 use crate::state::Watcher;
+use rewriting::interval::endless;
 use rewriting::rule::record_at;
+use rewriting::step::Interval;
 use rewriting::step::Record;
 ghost use mathlib.Core.Path.{_≡_};
 ghost use Prim.Native.Nat.{ℕ, _+_, _*_, _≤_, _<_};
 ghost use lib.ListN.{getD};
 ghost use Rattle.meaning.specs.Horizon.{horizon};
-ghost use Rattle.rewriting.specs.Decode.{ruleIn};
+ghost use Rattle.rewriting.specs.Decode.{intervalFor, ruleIn};
 ghost use Rattle.watcher.specs.Limits.{mostRecords};
 ghost use Rattle.watcher.specs.Numbers.{horizonFor};
 ghost use Rattle.watcher.specs.inside.Horizons.{Small, OfLarger, OfLater, SidesOf, OfRecord};
@@ -32,17 +34,17 @@ fn larger(a: usize, b: usize) -> usize
 }
 
 // High more; with no upper end there is no limit.
-fn later(high: u8, a: usize) -> usize
+fn later(interval: Interval, a: usize) -> usize
     requires { ⌜ a ≤ 4096 ⌝ }
-    ensures { λ r. ⌜ OfLater high a r × (r ≤ a + 256) ⌝ }
+    ensures { λ r. ⌜ OfLater (intervalFor interval) a r × (r ≤ a + 256) ⌝ }
 {
-    if high == 255 {
+    if endless(interval) {
         return 0;
     }
     if a == 0 {
         return 0;
     }
-    high as usize + a
+    interval.high as usize + a
 }
 
 // Entry l of the table; none past it.
@@ -72,8 +74,8 @@ fn record_entry(record: Record, codes: &[usize], k: usize) -> usize
     let kind = record.kind;
     match kind {
         1 | 2 | 3 => 1,
-        6 => later(record.high, sides.left),
-        7 => later(record.high, sides.both),
+        6 => later(record.interval, sides.left),
+        7 => later(record.interval, sides.both),
         8 => sides.left,
         _ => sides.both,
     }

@@ -11,7 +11,7 @@ use Rattle.meaning.specs.Rule.{Node, Entry}
 use Rattle.meaning.specs.Rewriting.{put, onlyIf, formOf, rowTo, nextRow, untilLater, derivedRow}
 use Rattle.meaning.specs.Rewriting.{previousRow, sinceEarlier, pastRow}
 use Rattle.meaning.specs.Rewriting as rewriting
-use Rattle.rewriting.specs.Decode.{intervalOf, nodeFor}
+use Rattle.rewriting.specs.Decode.{intervalFor, nodeFor}
 use Rattle.rewriting.specs.declared.row.Row.{Row}
 use Rattle.rewriting.specs.declared.row.Row.the-variants.{Derived, Past}
 use Rattle.rewriting.specs.declared.step.Record.{Record}
@@ -53,7 +53,7 @@ neighbourOf None = rewriting.none
 neighbourOf (At time) = rewriting.at time
 
 unfoldable pub intervalIn : Step → interval.Interval
-intervalIn step = intervalOf (step .record .low) (step .record .high)
+intervalIn step = intervalFor (step .record .interval)
 
 unfoldable pub entryIn : Step → Entry
 entryIn step = record { time = step .here; signals = step .signals }

@@ -3,9 +3,10 @@ use mathlib.Core.Path.{_≡_}
 use mathlib.Core.List.{List}
 use Prim.Native.Nat.{ℕ, _+_, _*_, _≤_}
 use lib.ListN.{getD}
+use Rattle.meaning.specs.Interval.{Interval}
 use Rattle.meaning.specs.Horizon.{Horizon, within, never, larger, later, horizonOf}
 use Rattle.rewriting.specs.declared.step.Record.{Record}
-use Rattle.rewriting.specs.Decode.{intervalOf, nodeFor}
+use Rattle.rewriting.specs.Decode.{nodeFor}
 use Rattle.watcher.specs.declared.horizon.Sides.{Sides}
 
 -- a horizon as a number: 0 is none, and one more than its minutes otherwise
@@ -26,8 +27,8 @@ abbrev pub OfLarger : ℕ → ℕ → ℕ → Type 0
 OfLarger a b r = (x y : Horizon) → a ≡ codeOf x → b ≡ codeOf y → r ≡ codeOf (larger x y)
 
 -- the answer is the number of a horizon that an interval makes later
-abbrev pub OfLater : ℕ → ℕ → ℕ → Type 0
-OfLater high a r = (low : ℕ) (x : Horizon) → a ≡ codeOf x → r ≡ codeOf (later (intervalOf low high) x)
+abbrev pub OfLater : Interval → ℕ → ℕ → Type 0
+OfLater v a r = (x : Horizon) → a ≡ codeOf x → r ≡ codeOf (later v x)
 
 -- the answer has the entry of a record's left, and of the larger of its sides
 pub record SidesOf (d : Record) (codes : List ℕ) (k : ℕ) (r : Sides) : Type 0 where

@@ -39,7 +39,7 @@ unfolding intervalIn
 returns-3 c past forms derived alone hp hf hs =
     let start = c .before .before .before .before .before .before .before .before .before .before in
     end-inside (start .args .step) past forms derived alone (start .args .setting) hs _ _
-    (c .before .before .before .before .before .if3 .taken) (c .before .before .before .before .inside-now .ensures _)
+    (c .before .before .before .before .before .if3 .taken) (c .before .before .before .before .inside-now .ensures)
     (c .before .before .before .if4 .taken)
     (c .value .ensures _ _ (start .pre .few) (c .before .row-of .ensures _ forms hf))
 
@@ -48,7 +48,7 @@ unfolding intervalIn
 returns-4 c past forms derived alone hp hf hs =
     let a = c .before .before .before .before .before .before .before .args in
     end-outside (a .step) past forms derived alone (a .setting) hs _ _ (c .before .before .if3 .taken)
-    (c .before .inside-now .ensures _) (c .if4 .left) refl
+    (c .before .inside-now .ensures) (c .if4 .left) refl
 
 add-row-of : tie.Need-add-row-of
 add-row-of c = search needs

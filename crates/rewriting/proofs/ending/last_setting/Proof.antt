@@ -9,7 +9,7 @@ use Rattle.rewriting.specs.declared.step.Neighbour.the-variants.{None}
 use Rattle.rewriting.specs.Plans.{ruleFor}
 use Rattle.rewriting.specs.inside.Endings.{Settled, lastRows}
 use Rattle.rewriting.proofs.Counting.{firstOf-rule}
-use Rattle.rewriting.proofs.Walking.{block-fits, step-ready}
+use Rattle.rewriting.proofs.Walking.{step-count, block-fits, step-ready}
 use Rattle.rewriting.proofs.Lasting.{last-none, last-more, last-done}
 use Rattle.rewriting.proofs.ending.last_setting.Statement.{statement}
 use Rattle.rewriting.proofs.ending.last_setting.Tie as tie
@@ -31,8 +31,8 @@ loop-holds c =
 step-at-requires : tie.Need-step-at-requires Inv-loop μ-loop
 step-at-requires c κs = search needs
 
-count-at-requires : tie.Need-count-at-requires Inv-loop μ-loop
-count-at-requires c κs = search needs
+count-of-requires : tie.Need-count-of-requires Inv-loop μ-loop
+count-of-requires c κs = search needs
 
 end-values-requires : tie.Need-end-values-requires Inv-loop μ-loop
 end-values-requires c κs =
@@ -40,18 +40,23 @@ end-values-requires c κs =
     let a = start .args in
     let sound = start .pre .0 in
     let here = c .before .before .before .loop in
+    let is = c .before .step-at .ensures in
+    let counted = step-count (a .list .now) (here .k) _ _ (a .last) None _ _ is (c .count-of .ensures .0) in
     let ready =
     step-ready (a .list .now) (a .plan) sound (here .k) (here .first) _ (c .before .before .loop-test .taken)
-    (here .inv .1) (c .count-at .ensures .0) (a .last) None _ (c .before .step-at .ensures) 0 (omega arith) in
+    (here .inv .1) counted (a .last) None _ is 0 (omega arith) in
     (ready .0, omega (arith, ready .1 .behind, sound .room))
 
 add-first : tie.Need-add-first Inv-loop μ-loop
 add-first c =
     let start = c .before .before .before .before .before .before .before .before in
     let here = c .before .before .before .before .loop in
+    let a = start .args in
     let sound = start .pre .0 in
-    let fits = block-fits (start .args .list .now) (start .args .plan) sound (here .k) (here .first) _
-    (c .before .before .before .loop-test .taken) (here .inv .1) (c .before .count-at .ensures .0) in
+    let counted = step-count (a .list .now) (here .k) _ _ (a .last) None _ _ (c .before .before .step-at .ensures)
+    (c .before .count-of .ensures .0) in
+    let fits = block-fits (a .list .now) (a .plan) sound (here .k) (here .first) _
+    (c .before .before .before .loop-test .taken) (here .inv .1) counted in
     omega (arith, fits, sound .few, sound .room)
 
 add-k : tie.Need-add-k Inv-loop μ-loop
@@ -67,7 +72,7 @@ loop-again c =
     let here = c .before .before .before .before .loop in
     let less = c .before .before .before .loop-test .taken in
     let read = c .before .before .step-at .ensures in
-    let counted = c .before .count-at .ensures .0 in
+    let counted = step-count (a .list .now) (here .k) _ _ (a .last) None _ _ read (c .before .count-of .ensures .0) in
     let more = firstOf-rule (a .list .now) (a .plan .records) (here .k) less in (
       search needs,
       omega arith,
@@ -84,5 +89,5 @@ returns c =
 pub last-setting-spec : {M : Type 1} → statement M
 last-setting-spec =
     tie.close
-    (tie.spec Inv-loop μ-loop loop-holds step-at-requires count-at-requires end-values-requires add-first add-k
+    (tie.spec Inv-loop μ-loop loop-holds step-at-requires count-of-requires end-values-requires add-first add-k
     loop-less loop-again returns)

@@ -21,7 +21,7 @@ returns c f g rows ef eg h =
     let step = c .before .before .before .before .args .step in
     let few = c .before .before .before .before .pre .few in
     c .or .ensures (step .m) _ _ few
-    (test-same (step .m) _ _ _ _ (c .before .before .inside-now .ensures (step .here))
+    (test-same (step .m) _ _ _ _ (c .before .before .inside-now .ensures)
     (c .before .only-put .ensures (step .m) _ rows few ef h)) eg
 
 pub now-or-spec : {M : Type 1} → statement M

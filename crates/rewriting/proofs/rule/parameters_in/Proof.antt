@@ -8,6 +8,7 @@ use borrow.Author.Needs.{needs}
 use Rattle.meaning.specs.Rule.{firstOf}
 use Rattle.rewriting.specs.Decode.{ruleIn}
 use Rattle.rewriting.proofs.Counting.{firstOf-rule, parameters-done, counts-same}
+use Rattle.rewriting.proofs.Rules.{record-count}
 use Rattle.rewriting.proofs.rule.parameters_in.Statement.{statement}
 use Rattle.rewriting.proofs.rule.parameters_in.Tie as tie
 
@@ -27,8 +28,11 @@ loop-holds c = (
   search needs,
 )
 
-count-at-requires : tie.Need-count-at-requires Inv-loop μ-loop
-count-at-requires c κs = search needs
+record-at-requires : tie.Need-record-at-requires Inv-loop μ-loop
+record-at-requires c κs = search needs
+
+count-of-requires : tie.Need-count-of-requires Inv-loop μ-loop
+count-of-requires c κs = search needs
 
 add-sum : tie.Need-add-sum Inv-loop μ-loop
 add-sum c = search needs
@@ -41,9 +45,10 @@ loop-less c = search needs
 
 loop-again : tie.Need-loop-again Inv-loop μ-loop
 loop-again c =
-    let list = c .before .before .before .before .before .args .list .now in
-    let here = c .before .before .loop .k in
-    let more = firstOf-rule list _ here (c .before .loop-test .taken) in
+    let list = c .before .before .before .before .before .before .args .list .now in
+    let here = c .before .before .before .loop .k in
+    let more = firstOf-rule list _ here (c .before .before .loop-test .taken) in
+    let counted = record-count list here _ (c .before .record-at .ensures) _ (c .count-of .ensures .0) in
     (search needs, search needs, omega arith, search needs)
 
 returns : tie.Need-returns Inv-loop μ-loop
@@ -53,4 +58,6 @@ returns c =
 
 pub parameters-in-spec : {M : Type 1} → statement M
 parameters-in-spec =
-    tie.close (tie.spec Inv-loop μ-loop loop-holds count-at-requires add-sum add-k loop-less loop-again returns)
+    tie.close
+    (tie.spec Inv-loop μ-loop loop-holds record-at-requires count-of-requires add-sum add-k loop-less loop-again
+    returns)

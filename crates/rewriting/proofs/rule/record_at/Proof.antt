@@ -1,4 +1,4 @@
--- `rule::record_at` meets its contract: the five bytes that a record has.
+-- `rule::record_at` meets its contract: the six bytes that a record has.
 -- Assumes nothing.
 use borrow.Author.Needs.{needs}
 use Rattle.rewriting.specs.Decode.{recordIn}
@@ -20,6 +20,9 @@ byte-of-requires-4 c κs = search needs
 byte-of-requires-5 : tie.Need-byte-of-requires-5
 byte-of-requires-5 c κs = search needs
 
+byte-of-requires-6 : tie.Need-byte-of-requires-6
+byte-of-requires-6 c κs = search needs
+
 returns : tie.Need-returns
 unfolding recordIn
 returns c = cc
@@ -27,4 +30,5 @@ returns c = cc
 pub record-at-spec : {M : Type 1} → statement M
 record-at-spec =
     tie.close
-    (tie.spec byte-of-requires byte-of-requires-2 byte-of-requires-3 byte-of-requires-4 byte-of-requires-5 returns)
+    (tie.spec byte-of-requires byte-of-requires-2 byte-of-requires-3 byte-of-requires-4 byte-of-requires-5
+    byte-of-requires-6 returns)

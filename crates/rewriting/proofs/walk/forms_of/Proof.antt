@@ -13,7 +13,7 @@ use Rattle.rewriting.specs.Plans.{formRow}
 use Rattle.rewriting.proofs.Counting.{firstOf-rule}
 use Rattle.rewriting.proofs.Tables.{forms-row}
 use Rattle.rewriting.proofs.Written.{wrote-none, wrote-more, wrote-all}
-use Rattle.rewriting.proofs.Rules.{record-node}
+use Rattle.rewriting.proofs.Rules.{record-node, record-count}
 use Rattle.rewriting.proofs.walk.forms_of.Statement.{statement}
 use Rattle.rewriting.proofs.walk.forms_of.Tie as tie
 
@@ -41,8 +41,8 @@ form-row-requires c κs = search needs
 store-requires : tie.Need-store-requires Inv-loop μ-loop
 store-requires c κs = search needs
 
-count-at-requires : tie.Need-count-at-requires Inv-loop μ-loop
-count-at-requires c κs = search needs
+count-of-requires : tie.Need-count-of-requires Inv-loop μ-loop
+count-of-requires c κs = search needs
 
 add-first : tie.Need-add-first Inv-loop μ-loop
 add-first c = search needs
@@ -60,7 +60,8 @@ loop-again c =
     let here = c .before .before .before .before .before .before .before .before .before .loop in
     let p = here .inv in
     let less = c .before .before .before .before .before .before .before .before .loop-test .taken in
-    let read = record-node _ _ _ (c .before .before .before .before .before .before .before .record-at .ensures) in
+    let is = c .before .before .before .before .before .before .before .record-at .ensures in
+    let counted = record-count (a .list .now) (here .k) _ is _ (c .count-of .ensures .0) in
     let more = firstOf-rule (a .list .now) (a .records) (here .k) less in
     let made = c .before .before .before .before .before .form-row .ensures in (
       search needs,
@@ -68,8 +69,8 @@ loop-again c =
       search needs,
       search needs,
       wrote-more _ _ _ (here .k) _ _ _ _ (p .4) (omega arith) (c .before .before .before .store .ensures)
-          (forms-row (a .m) (a .list .now) (a .records) (here .k) _ _ _ _ _ less (start .pre .2) (p .1) read
-          (p .4) made),
+          (forms-row (a .m) (a .list .now) (a .records) (here .k) _ _ _ _ _ less (start .pre .2) (p .1)
+          (record-node _ _ _ is) (p .4) made),
     )
 
 same-length : tie.Need-same-length Inv-loop μ-loop
@@ -82,5 +83,5 @@ returns c =
 pub forms-of-spec : {M : Type 1} → statement M
 forms-of-spec =
     tie.close
-    (tie.spec Inv-loop μ-loop loop-holds record-at-requires form-row-requires store-requires count-at-requires
+    (tie.spec Inv-loop μ-loop loop-holds record-at-requires form-row-requires store-requires count-of-requires
     add-first add-k loop-less loop-again same-length returns)

@@ -13,7 +13,7 @@ use Rattle.rewriting.specs.Plans.{ruleFor, formRow}
 use Rattle.rewriting.specs.inside.Steps.{ownAt, otherAt}
 use Rattle.rewriting.specs.inside.Walks.{rowsFor}
 use Rattle.rewriting.proofs.Counting.{firstOf-rule}
-use Rattle.rewriting.proofs.Walking.{block-fits, step-ready, rows-block, walked-all}
+use Rattle.rewriting.proofs.Walking.{step-count, block-fits, step-ready, rows-block, walked-all}
 use Rattle.rewriting.proofs.Written.{wrote-none}
 use Rattle.rewriting.proofs.walk.rule_rows.Statement.{statement}
 use Rattle.rewriting.proofs.walk.rule_rows.Tie as tie
@@ -37,8 +37,8 @@ loop-holds c = (search needs, search needs, refl, λ other ho. wrote-none _ _ _)
 step-at-requires : tie.Need-step-at-requires Inv-loop μ-loop
 step-at-requires c κs = search needs
 
-count-at-requires : tie.Need-count-at-requires Inv-loop μ-loop
-count-at-requires c κs = search needs
+count-of-requires : tie.Need-count-of-requires Inv-loop μ-loop
+count-of-requires c κs = search needs
 
 add-record-rows : tie.Need-add-record-rows Inv-loop μ-loop
 add-record-rows c =
@@ -49,20 +49,25 @@ record-rows-requires c κs =
     let start = c .before .before .before .before .before .before .before .before .before in
     let a = start .args in
     let here = c .before .before .before .before .before .loop in
+    let is = c .before .before .before .step-at .ensures in
     step-ready (a .list .now) (a .plan) (start .pre .0) (here .k) (here .first) _
-    (c .before .before .before .before .loop-test .taken) (here .inv .1) (c .before .before .count-at .ensures .0)
-    (a .here) (a .near) _ (c .before .before .before .step-at .ensures) (a .held) (start .pre .3)
+    (c .before .before .before .before .loop-test .taken) (here .inv .1)
+    (step-count (a .list .now) (here .k) _ _ (a .here) (a .near) _ _ is (c .before .before .count-of .ensures .0))
+    (a .here) (a .near) _ is (a .held) (start .pre .3)
 
 add-first : tie.Need-add-first Inv-loop μ-loop
 add-first c =
     let start = c .before .before .before .before .before .before .before .before .before .before .before .before in
     let here = c .before .before .before .before .before .before .before .before .loop in
+    let a = start .args in
     let sound = start .pre .0 in
+    let is = c .before .before .before .before .before .before .step-at .ensures in
     omega (
       arith,
-      block-fits (start .args .list .now) (start .args .plan) sound (here .k) (here .first) _
+      block-fits (a .list .now) (a .plan) sound (here .k) (here .first) _
           (c .before .before .before .before .before .before .before .loop-test .taken) (here .inv .1)
-          (c .before .before .before .before .before .count-at .ensures .0),
+          (step-count (a .list .now) (here .k) _ _ (a .here) (a .near) _ _ is
+          (c .before .before .before .before .before .count-of .ensures .0)),
       sound .few,
       sound .room,
     )
@@ -80,7 +85,8 @@ loop-again c =
     let here = c .before .before .before .before .before .before .before .before .loop in
     let less = c .before .before .before .before .before .before .before .loop-test .taken in
     let read = c .before .before .before .before .before .before .step-at .ensures in
-    let counted = c .before .before .before .before .before .count-at .ensures .0 in
+    let counted = step-count (a .list .now) (here .k) _ _ (a .here) (a .near) _ _ read
+    (c .before .before .before .before .before .count-of .ensures .0) in
     let more = firstOf-rule (a .list .now) (a .plan .records) (here .k) less in (
       search needs,
       omega arith,
@@ -104,5 +110,5 @@ returns c other ho =
 pub rule-rows-spec : {M : Type 1} → statement M
 rule-rows-spec =
     tie.close
-    (tie.spec Inv-loop μ-loop loop-holds step-at-requires count-at-requires add-record-rows record-rows-requires
+    (tie.spec Inv-loop μ-loop loop-holds step-at-requires count-of-requires add-record-rows record-rows-requires
     add-first add-k loop-less loop-again same-length returns)
