@@ -1,6 +1,6 @@
 -- What check 12 lets through has the shape that the rewriting gives past rows, so document 01's equations hold of it.
 -- Assumes nothing.
-use mathlib.Core.Path.{_≡_, subst}
+use mathlib.Core.Path.{_≡_, _∙_}
 use mathlib.Core.Bool.{false}
 use mathlib.Core.List.{List}
 use Prim.Native.Nat.{ℕ}
@@ -10,45 +10,32 @@ use Rattle.meaning.specs.Rule.{Entry}
 use Rattle.meaning.specs.Shape.{Shaped}
 use Rattle.meaning.proofs.EveryRecord.{first-record, later-record, end}
 use Rattle.rewriting.specs.Known.{formAt, pastIn, knownIn}
-use Rattle.rewriting.specs.Shape.{bitsAbove, notZeroFrom}
 use Rattle.rewriting.proofs.ShapedRows.{rows-shaped}
 use Rattle.watcher.specs.declared.state.Watcher.{Watcher}
 use Rattle.watcher.specs.Limits.{mostParameters}
 use Rattle.watcher.specs.Numbers.{running, stageOf}
-use Rattle.watcher.specs.State.{ruleOf, parametersOf, startRefuses, notZerosBehind, signalsAbove, wrongInPhase}
-use Rattle.watcher.specs.State.{brokenState}
+use Rattle.watcher.specs.State.{ruleOf, parametersOf, brokenState}
 use Rattle.watcher.specs.Calls.{knownNext}
 use Rattle.watcher.specs.Machine.{MachineState}
-use Rattle.watcher.proofs.Decoded.{neither}
+use Rattle.watcher.proofs.Breaking.{Unbroken, unbroken, phase-rows}
 use Rattle.watcher.proofs.HeldLaws.{held-ordered}
 use Rattle.demands.specs.Handed.{HandedIsWhole}
 
 -- what check 12 lets through
 module _ (w : Watcher) (ws : List ℕ) (machine : MachineState w) (fine : brokenState w ws ≡ false) where
-  lists : startRefuses w ≡ false
-  unfolding brokenState
-  lists = neither (startRefuses w) _ fine .0
-
-  phased : wrongInPhase w ws (stageOf (w .phase)) ≡ false
-  unfolding brokenState
-  phased =
-      let a = neither (startRefuses w) _ fine .1 in
-      let b = neither (notZerosBehind w) _ a .1 in
-      let c = neither (signalsAbove (w .signals) (stageOf (w .phase))) _ b .1 in
-      let d = neither (bitsAbove mostParameters (parametersOf w) ws) _ c .1 in
-      neither (notZeroFrom mostParameters (parametersOf w) ws) _ d .1
+  passed : Unbroken w ws
+  passed = unbroken w ws fine
 
   shaped : (last : Entry) → stageOf (w .phase) ≡ running last
       → Shaped (ruleOf w) (parametersOf w) last (pastIn (parametersOf w) ws) (length (ruleOf w))
-  unfolding wrongInPhase
   shaped last e =
       rows-shaped (ruleOf w) (parametersOf w) last (pastIn (parametersOf w) ws)
-      (subst (λ s. wrongInPhase w ws s ≡ false) e phased)
+      (phase-rows w ws last e ∙ passed .rows)
 
 pub handed-is-whole : HandedIsWhole
 unfolding knownNext knownIn parametersOf
 handed-is-whole w ws machine fine =
-    let ordered = held-ordered w (lists w ws machine fine) (machine .long-rule) in
+    let ordered = held-ordered w (passed w ws machine fine .lists) (machine .long-rule) in
     let m : ℕ = parametersOf w in
     record {
       first = λ s e. first-record (ruleOf w) ordered m (le-refl m) (formAt m ws mostParameters) e;

@@ -31,6 +31,7 @@ use Rattle.watcher.proofs.Decoded.{Accepted, fine-tests, tests-fine, length-fin
 use Rattle.watcher.proofs.Decoded.{accepted-list, accepted-few}
 use Rattle.watcher.proofs.Refusing.{length-most}
 use Rattle.watcher.proofs.Testing.{start-refused, start-fine, start-passed}
+use Rattle.watcher.proofs.Breaking.{not-broken}
 use Rattle.rewriting.proofs.Placed.{read-past}
 use Rattle.rewriting.proofs.TidyRows.{bits-fine, unused-fine}
 use Rattle.rewriting.proofs.ShapedRows.{rows-fine}
@@ -114,13 +115,17 @@ module _ (rule signals : List ℕ) (fine : Accepted rule signals) where
       → bitsAbove mostParameters (parametersIn rule) ws ≡ false
       → notZeroFrom mostParameters (parametersIn rule) ws ≡ false
       → wrongInPhase (stateIn rule signals p) ws (stageOf p) ≡ false → brokenState (stateIn rule signals p) ws ≡ false
-  unfolding brokenState stateIn
+  unfolding stateIn
   broken-in p ws above bits unused rows =
-      ap₂ _||_ (lists-in p)
-      (ap₂ _||_ (zeros-in p)
-      (ap₂ _||_ above
-      (ap₂ _||_ (ap (λ m. bitsAbove mostParameters m ws) (parameters-in p) ∙ bits)
-      (ap₂ _||_ (ap (λ m. notZeroFrom mostParameters m ws) (parameters-in p) ∙ unused) rows))))
+      not-broken (stateIn rule signals p) ws
+      (record {
+        lists = lists-in p;
+        behind = zeros-in p;
+        word = above;
+        bits = ap (λ m. bitsAbove mostParameters m ws) (parameters-in p) ∙ bits;
+        unused = ap (λ m. notZeroFrom mostParameters m ws) (parameters-in p) ∙ unused;
+        rows = rows;
+      })
 
 -- what is known is as the watcher makes it: a past row of the right shape for each parameter, no signal past the list
 pub record Lawful (rule signals : List ℕ) (s : Known (parametersIn rule)) : Type 0 where

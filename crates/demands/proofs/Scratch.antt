@@ -1,28 +1,25 @@
 -- The work area of an accepted call: what the scratch holds at entry does not count.
 -- Assumes nothing.
-use mathlib.Core.Path.{_≡_, refl, sym, ap, ap₂, _∙_}
-use mathlib.Core.Bool.{Bool, true, false, not, _||_}
+use mathlib.Core.Path.{_≡_, sym, ap, _∙_}
+use mathlib.Core.Bool.{false, not}
 use mathlib.Core.List.{List, _++_}
-use Prim.Native.Nat.{ℕ, _+_, _≤_, _<_}
+use Prim.Native.Nat.{ℕ, _+_, _≤_}
+use native.Mathlib.Nat.{le-refl}
 use native.Mathlib.Omega.{arith}
 use lib.ListN.{length}
 use lib.Dec.{eqb}
-use Rattle.ground.proofs.Tabs.{tab-cong}
-use Rattle.forms.specs.Words.{unpack}
 use Rattle.forms.specs.Area.{rowAt}
 use Rattle.meaning.specs.Rule.{Node, Entry}
 use Rattle.meaning.specs.Words.{Known, leave, feed, close, valueIfLast}
-use Rattle.rewriting.specs.Known.{formAt, pastIn, knownIn, areaOf}
-use Rattle.rewriting.specs.Shape.{bitsAbove, notZeroFrom, wrongRows}
-use Rattle.rewriting.proofs.TidyRows.{bits-same, zeros-same}
+use Rattle.rewriting.specs.Known.{formAt, knownIn, areaOf}
+use Rattle.rewriting.proofs.TidyRows.{form-same, known-same}
 use Rattle.watcher.specs.declared.state.Watcher.{Watcher}
 use Rattle.watcher.specs.declared.state.Found.the-variants as found
 use Rattle.watcher.specs.declared.state.Answer.the-variants as answer
 use Rattle.watcher.specs.declared.state.End.the-variants as end
 use Rattle.watcher.specs.Limits.{mostParameters, listBytes, areaWords}
 use Rattle.watcher.specs.Numbers.{verdictFor, Stage, fresh, running, closed, stageOf}
-use Rattle.watcher.specs.State.{parametersOf, startRefuses, notZerosBehind, signalsAbove, wrongInPhase, brokenState}
-use Rattle.watcher.specs.State.{ruleOf}
+use Rattle.watcher.specs.State.{ruleOf, parametersOf, startRefuses, brokenState}
 use Rattle.watcher.specs.Records.{entryOf}
 use Rattle.watcher.specs.Lists.{Test, firstRefusal}
 use Rattle.watcher.specs.Calls.{wrongArea, stateTests, startRefusal, feedRefusal, closeRefusal}
@@ -30,7 +27,8 @@ use Rattle.watcher.specs.Calls.{startWith, startOf, feedWith, feedOf, closeWith
 use Rattle.watcher.specs.Calls.{runningState, reportOf, closedState}
 use Rattle.demands.specs.Areas.{Alike}
 use Rattle.watcher.proofs.HeldLaws.{held-few}
-use Rattle.watcher.proofs.Decoded.{neither, first-fine}
+use Rattle.watcher.proofs.Decoded.{first-fine}
+use Rattle.watcher.proofs.Breaking.{unbroken, broken-same}
 
 -- an accepted start does not look at the area
 pub start-any : (rule signals a b : List ℕ) → startRefusal rule signals a ≡ found.Fine
@@ -42,11 +40,11 @@ start-any rule signals a b e f =
 -- a state that passes the first tests holds lists that start would not refuse
 lists-sound : (w : Watcher) (ws : List ℕ) (more : List Test) → firstRefusal (stateTests w ws ++ more) ≡ found.Fine
     → startRefuses w ≡ false
-unfolding stateTests firstRefusal brokenState
+unfolding stateTests firstRefusal
 lists-sound w ws more e =
     let a = first-fine (wrongArea ws) _ _ e in
     let b = first-fine (brokenState w ws) _ _ (a .1) in
-    neither (startRefuses w) _ (b .0) .0
+    unbroken w ws (b .0) .lists
 
 -- what is read from two areas that differ in the scratch only
 module _ (a b : List ℕ) (alike : Alike a b) where
@@ -57,75 +55,46 @@ module _ (a b : List ℕ) (alike : Alike a b) where
   rows : (j : ℕ) → j ≤ mostParameters → rowAt a j ≡ rowAt b j
   rows j h = alike .rows j (omega arith)
 
-  form-same : (m j : ℕ) → j < mostParameters + 1 → formAt m a j ≡ formAt m b j
-  unfolding formAt
-  form-same m j h = ap (unpack m) (alike .rows j h)
+  same-form : (m : ℕ) → formAt m a mostParameters ≡ formAt m b mostParameters
+  same-form m = form-same mostParameters a b rows m mostParameters (le-refl mostParameters)
 
-  past-same : (m : ℕ) → m ≤ mostParameters → pastIn m a ≡ pastIn m b
-  unfolding pastIn
-  past-same m h = tab-cong m (formAt m a) (formAt m b) (λ j l. form-same m j (omega arith))
-
-  known-same : (m : ℕ) → m ≤ mostParameters → (last : Entry)
+  same-known : (m : ℕ) → m ≤ mostParameters → (last : Entry)
       → knownIn mostParameters m a last ≡ knownIn mostParameters m b last
-  unfolding knownIn
-  known-same m h last =
-      ap₂ (λ past f. record { past = past; remainder = f; last = last }) (past-same m h)
-      (form-same m mostParameters (omega arith))
+  same-known = known-same mostParameters a b rows
 
   -- a state's rule is an array of 128 bytes
   module _ (w : Watcher) (long : length (w .rule) ≡ listBytes) where
     few : startRefuses w ≡ false → parametersOf w ≤ mostParameters
     few e = held-few w e long
 
-    phase-same : parametersOf w ≤ mostParameters → (stage : Stage) → wrongInPhase w a stage ≡ wrongInPhase w b stage
-    unfolding wrongInPhase
-    phase-same h fresh = zeros-same mostParameters a b rows 0
-    phase-same h (running e) = ap (wrongRows (ruleOf w) (parametersOf w) e) (past-same (parametersOf w) h)
-    phase-same h (closed v) = refl
-
-    broken-same : brokenState w a ≡ brokenState w b
-    unfolding brokenState
-    broken-same = go (startRefuses w) refl
-      where
-        rest : List ℕ → Bool
-        rest ws =
-            notZerosBehind w
-            || (signalsAbove (w .signals) (stageOf (w .phase))
-            || (bitsAbove mostParameters (parametersOf w) ws
-            || (notZeroFrom mostParameters (parametersOf w) ws || wrongInPhase w ws (stageOf (w .phase)))))
-
-        go : (t : Bool) → startRefuses w ≡ t → (t || rest a) ≡ (t || rest b)
-        go true e = refl
-        go false e =
-            ap (λ x. notZerosBehind w || (signalsAbove (w .signals) (stageOf (w .phase)) || x))
-            (ap₂ _||_ (bits-same mostParameters a b rows (parametersOf w))
-            (ap₂ _||_ (zeros-same mostParameters a b rows (parametersOf w)) (phase-same (few e) (stageOf (w .phase)))))
+    still-broken : brokenState w a ≡ brokenState w b
+    still-broken = broken-same w a b rows long
 
     -- the same refusal, or none
     pub feed-refusal-same : (bytes : List ℕ) → feedRefusal w bytes a ≡ feedRefusal w bytes b
     unfolding feedRefusal stateTests
-    feed-refusal-same bytes = rw (area-same, broken-same)
+    feed-refusal-same bytes = rw (area-same, still-broken)
 
     pub close-refusal-same : closeRefusal w a ≡ closeRefusal w b
     unfolding closeRefusal stateTests
-    close-refusal-same = rw (area-same, broken-same)
+    close-refusal-same = rw (area-same, still-broken)
 
     next-same : parametersOf w ≤ mostParameters → (rule : List Node) (e : Entry) (stage : Stage)
         → knownNext (parametersOf w) rule a e stage ≡ knownNext (parametersOf w) rule b e stage
     unfolding knownNext
     next-same h rule e fresh =
-        ap (λ f. leave (parametersOf w) rule f e) (form-same (parametersOf w) mostParameters (omega arith))
+        ap (λ f. leave (parametersOf w) rule f e) (same-form (parametersOf w))
     next-same h rule e (running last) =
-        ap (λ s. feed (parametersOf w) rule s e) (known-same (parametersOf w) h last)
+        ap (λ s. feed (parametersOf w) rule s e) (same-known (parametersOf w) h last)
     next-same h rule e (closed v) =
-        ap (λ f. leave (parametersOf w) rule f e) (form-same (parametersOf w) mostParameters (omega arith))
+        ap (λ f. leave (parametersOf w) rule f e) (same-form (parametersOf w))
 
     now-same : parametersOf w ≤ mostParameters → (stage : Stage)
         → knownNow (parametersOf w) a stage ≡ knownNow (parametersOf w) b stage
     unfolding knownNow
-    now-same h fresh = known-same (parametersOf w) h (record { time = 0; signals = 0 })
-    now-same h (running last) = known-same (parametersOf w) h last
-    now-same h (closed v) = known-same (parametersOf w) h (record { time = 0; signals = 0 })
+    now-same h fresh = same-known (parametersOf w) h (record { time = 0; signals = 0 })
+    now-same h (running last) = same-known (parametersOf w) h last
+    now-same h (closed v) = same-known (parametersOf w) h (record { time = 0; signals = 0 })
 
     -- an accepted record, and an accepted closing, has the same outcome
     pub feed-same : (bytes : List ℕ) → feedRefusal w bytes a ≡ found.Fine → feedOf w bytes a ≡ feedOf w bytes b

@@ -1,6 +1,6 @@
 -- What the tests of bits and of zeros tell of an area: one that passes both is tidy, and one that is laid out passes.
 -- Assumes nothing.
-use mathlib.Core.Path.{_≡_, refl, sym, ap, _∙_, subst}
+use mathlib.Core.Path.{_≡_, refl, sym, ap, ap₂, _∙_, subst}
 use mathlib.Core.Bool.{Bool, true, false, not, _&&_, _||_}
 use mathlib.Core.List.{List}
 use Prim.Native.Nat.{ℕ, suc, _^_, _≤_, _<_}
@@ -13,12 +13,14 @@ use lib.Seq.{ext-getD}
 use Rattle.ground.specs.Fold.{fold, every, some}
 use Rattle.ground.proofs.Folds.{fold-cong, every-all, every-at, some-at, some-none, none-at}
 use Rattle.ground.proofs.Numbers.{zero-at}
+use Rattle.ground.proofs.Tabs.{tab-cong}
 use Rattle.forms.specs.Form.{Form, constant}
-use Rattle.forms.specs.Words.{pack, fits}
+use Rattle.forms.specs.Words.{pack, unpack, fits}
 use Rattle.forms.specs.Area.{rowAt, formIn}
 use Rattle.forms.proofs.Packing.{fits-pack, pack-false}
 use Rattle.forms.proofs.Areas.{length-rowAt}
-use Rattle.rewriting.specs.Known.{wordsFor, areaOf, Tidy}
+use Rattle.meaning.specs.Rule.{Entry}
+use Rattle.rewriting.specs.Known.{wordsFor, formAt, pastIn, knownIn, areaOf, Tidy}
 use Rattle.rewriting.specs.Shape.{bitsAbove, zeroRow, notZeroFrom}
 use Rattle.rewriting.specs.inside.Shapes.{Fitting}
 use Rattle.rewriting.proofs.Placed.{row-past, row-remainder, row-areaOf}
@@ -108,6 +110,21 @@ module _ (places : ℕ) (a b : List ℕ) (alike : (j : ℕ) → j ≤ places →
   zeros-same from =
       fold-cong _||_ false places _ _
       (λ j h. ap (λ row. leb from j && not (zeroRow row)) (alike j (omega arith)))
+
+  -- hold the same forms
+  pub form-same : (m j : ℕ) → j ≤ places → formAt m a j ≡ formAt m b j
+  unfolding formAt
+  form-same m j h = ap (unpack m) (alike j h)
+
+  pub past-same : (m : ℕ) → m ≤ places → pastIn m a ≡ pastIn m b
+  unfolding pastIn
+  past-same m h = tab-cong m (formAt m a) (formAt m b) (λ j l. form-same m j (omega arith))
+
+  pub known-same : (m : ℕ) → m ≤ places → (last : Entry) → knownIn places m a last ≡ knownIn places m b last
+  unfolding knownIn
+  known-same m h last =
+      ap₂ (λ past f. record { past = past; remainder = f; last = last }) (past-same m h)
+      (form-same m places (le-refl places))
 
 -- an area that is laid out
 module _ (places m : ℕ) (past : List (Form m)) (remainder : Form m) where

@@ -1,4 +1,5 @@
--- When the rows of a work area are wrong (document 01, refusal 12): past rows stand from place 0 on, then the remainder.
+-- When the rows of a work area are wrong (document 01, refusal 12). Past rows stand from place 0 on, then the
+-- remainder.
 use mathlib.Core.Bool.{Bool, true, false, not, _&&_, _||_}
 use mathlib.Core.List.{List}
 use Prim.Native.Nat.{ℕ, zero, suc, _+_}

@@ -1,28 +1,31 @@
 -- What each way through check 12 finds.
 -- Assumes nothing.
-use mathlib.Core.Path.{_≡_, ap, sym, _∙_}
-use mathlib.Core.Bool.{Bool, true, false}
+use mathlib.Core.Path.{_≡_, refl, sym, ap, ap₂, _∙_}
+use mathlib.Core.Bool.{Bool, true, false, _||_}
 use mathlib.Core.List.{List}
-use Prim.Native.Nat.{ℕ, _*_, _%_, _^_, _<_, min}
+use Prim.Native.Nat.{ℕ, _*_, _%_, _^_, _≤_, _<_, min}
 use native.Mathlib.Nat.{le-refl}
 use native.Mathlib.Omega.{arith}
 use lib.Dec.{leb}
 use lib.ListN.{length}
 use Rattle.ground.proofs.Bits.{one-shl}
-use Rattle.meaning.specs.Rule.{parameters}
+use Rattle.forms.specs.Area.{rowAt}
+use Rattle.meaning.specs.Rule.{parameters, Entry}
 use Rattle.rewriting.specs.Decode.{ruleIn}
 use Rattle.rewriting.specs.Known.{pastIn}
 use Rattle.rewriting.specs.Plans.{Sound}
 use Rattle.rewriting.specs.Shape.{bitsAbove, notZeroFrom, wrongRows}
 use Rattle.rewriting.proofs.Counting.{counts-all}
+use Rattle.rewriting.proofs.TidyRows.{bits-same, zeros-same, past-same}
 use Rattle.watcher.specs.declared.state.Watcher.{Watcher}
 use Rattle.watcher.specs.declared.state.Phase.{Phase}
 use Rattle.watcher.specs.declared.state.Phase.the-variants.{Fresh, Running, Closed}
 use Rattle.watcher.specs.declared.state.Verdict.{Verdict}
 use Rattle.watcher.specs.Limits.{mostParameters, listBytes}
-use Rattle.watcher.specs.Numbers.{stageOf}
+use Rattle.watcher.specs.Numbers.{Stage, fresh, running, closed, stageOf}
 use Rattle.watcher.specs.State.{ruleOf, parametersOf, startRefuses, notZerosBehind, signalsAbove}
 use Rattle.watcher.specs.State.{wrongInPhase, brokenState}
+use Rattle.watcher.proofs.Decoded.{neither}
 use Rattle.watcher.proofs.HeldLaws.{held-some, held-most, held-kinds, held-few}
 
 -- the bits of a running signal word, by the phase
@@ -54,6 +57,13 @@ module _ (w : Watcher) (ws : List ℕ) where
   phase-running m time signals r e own q =
       q ∙ ap (λ n. wrongRows (ruleOf w) n (record { time = time; signals = signals }) (pastIn n ws)) own
       ∙ ap (λ p. wrongInPhase w ws (stageOf p)) (sym e)
+
+  -- of a running state they are those of its last record
+  pub phase-rows : (last : Entry) → stageOf (w .phase) ≡ running last
+      → wrongRows (ruleOf w) (parametersOf w) last (pastIn (parametersOf w) ws)
+      ≡ wrongInPhase w ws (stageOf (w .phase))
+  unfolding wrongInPhase
+  phase-rows last e = ap (wrongInPhase w ws) (sym e)
 
   pub phase-closed : (v : Verdict) → w .phase ≡ Closed v → false ≡ wrongInPhase w ws (stageOf (w .phase))
   unfolding wrongInPhase stageOf
@@ -105,7 +115,63 @@ module _ (w : Watcher) (ws : List ℕ) where
           unfolding brokenState
           broken-unused e = rw (a, b, c, ← own, d, e)
 
-          pub broken-phase : (r : Bool) → notZeroFrom mostParameters m ws ≡ false → r ≡ wrongInPhase w ws (stageOf (w .phase))
-              → r ≡ brokenState w ws
+          pub broken-phase : (r : Bool) → notZeroFrom mostParameters m ws ≡ false
+              → r ≡ wrongInPhase w ws (stageOf (w .phase)) → r ≡ brokenState w ws
           unfolding brokenState
           broken-phase r e f = rw (a, b, c, ← own, d, e) f
+
+-- a state and an area that pass every test
+pub record Unbroken (w : Watcher) (ws : List ℕ) : Type 0 where
+  pub lists : startRefuses w ≡ false
+  pub behind : notZerosBehind w ≡ false
+  pub word : signalsAbove (w .signals) (stageOf (w .phase)) ≡ false
+  pub bits : bitsAbove mostParameters (parametersOf w) ws ≡ false
+  pub unused : notZeroFrom mostParameters (parametersOf w) ws ≡ false
+  pub rows : wrongInPhase w ws (stageOf (w .phase)) ≡ false
+
+module _ (w : Watcher) (ws : List ℕ) where
+  pub unbroken : brokenState w ws ≡ false → Unbroken w ws
+  unfolding brokenState
+  unbroken fine =
+      let a = neither (startRefuses w) _ fine in
+      let b = neither (notZerosBehind w) _ (a .1) in
+      let c = neither (signalsAbove (w .signals) (stageOf (w .phase))) _ (b .1) in
+      let d = neither (bitsAbove mostParameters (parametersOf w) ws) _ (c .1) in
+      let e = neither (notZeroFrom mostParameters (parametersOf w) ws) _ (d .1) in
+      record { lists = a .0; behind = b .0; word = c .0; bits = d .0; unused = e .0; rows = e .1 }
+
+  pub not-broken : Unbroken w ws → brokenState w ws ≡ false
+  not-broken u =
+      sym
+      (broken-phase w ws (u .lists) (u .behind) (u .word) (parametersOf w) refl (u .bits) false (u .unused)
+      (sym (u .rows)))
+
+-- areas with the same past rows and remainder: the tests say the same
+module _ (w : Watcher) (a b : List ℕ) (alike : (j : ℕ) → j ≤ mostParameters → rowAt a j ≡ rowAt b j) where
+  phase-same : parametersOf w ≤ mostParameters → (stage : Stage) → wrongInPhase w a stage ≡ wrongInPhase w b stage
+  unfolding wrongInPhase
+  phase-same h fresh = zeros-same mostParameters a b alike 0
+  phase-same h (running e) =
+      ap (wrongRows (ruleOf w) (parametersOf w) e) (past-same mostParameters a b alike (parametersOf w) h)
+  phase-same h (closed v) = refl
+
+  pub broken-same : length (w .rule) ≡ listBytes → brokenState w a ≡ brokenState w b
+  unfolding brokenState
+  broken-same long = go (startRefuses w) refl
+    where
+      m : ℕ
+      m = parametersOf w
+
+      rest : List ℕ → Bool
+      rest ws =
+          notZerosBehind w
+          || (signalsAbove (w .signals) (stageOf (w .phase))
+          || (bitsAbove mostParameters m ws
+          || (notZeroFrom mostParameters m ws || wrongInPhase w ws (stageOf (w .phase)))))
+
+      go : (t : Bool) → startRefuses w ≡ t → (t || rest a) ≡ (t || rest b)
+      go true e = refl
+      go false e =
+          ap (λ x. notZerosBehind w || (signalsAbove (w .signals) (stageOf (w .phase)) || x))
+          (ap₂ _||_ (bits-same mostParameters a b alike m)
+          (ap₂ _||_ (zeros-same mostParameters a b alike m) (phase-same (held-few w e long) (stageOf (w .phase)))))

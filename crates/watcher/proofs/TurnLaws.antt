@@ -10,46 +10,37 @@ use Rattle.meaning.specs.Horizon.{Horizon, never, horizon}
 use Rattle.rewriting.specs.Decode.{ruleIn}
 use Rattle.rewriting.specs.Known.{Tidy}
 use Rattle.rewriting.specs.Plans.{Sound}
-use Rattle.rewriting.specs.Shape.{bitsAbove, notZeroFrom}
 use Rattle.rewriting.proofs.TidyRows.{tidy}
 use Rattle.watcher.specs.declared.state.Watcher.{Watcher}
 use Rattle.watcher.specs.declared.state.Found.the-variants.{Fine}
 use Rattle.watcher.specs.Limits.{mostRecords, mostParameters, listBytes}
 use Rattle.watcher.specs.Rules.{recordsOf}
 use Rattle.watcher.specs.Lists.{listsRefusal}
-use Rattle.watcher.specs.Numbers.{stageOf}
-use Rattle.watcher.specs.State.{ruleOf, parametersOf, startRefuses, notZerosBehind, signalsAbove, brokenState}
+use Rattle.watcher.specs.State.{ruleOf, parametersOf, startRefuses}
 use Rattle.watcher.specs.Calls.{waitOf}
 use Rattle.watcher.specs.inside.Turns.{planOf, planIn, Passed}
-use Rattle.watcher.proofs.Decoded.{neither, fine-tests, length-fine, record-fine, accepted-laid, accepted-few}
+use Rattle.watcher.proofs.Decoded.{fine-tests, length-fine, record-fine, accepted-laid, accepted-few}
 use Rattle.watcher.proofs.HeldLaws.{held-most, held-some, held-few}
-use Rattle.watcher.proofs.Breaking.{sound}
+use Rattle.watcher.proofs.Breaking.{sound, Unbroken, unbroken}
 
 module _ (w : Watcher) (ws : List ℕ) (passed : Passed w ws) where
-  parts : (startRefuses w ≡ false) × (bitsAbove mostParameters (parametersOf w) ws ≡ false)
-      × (notZeroFrom mostParameters (parametersOf w) ws ≡ false)
-  unfolding brokenState
-  parts =
-      let a = neither (startRefuses w) _ (passed .whole) in
-      let b = neither (notZerosBehind w) _ (a .1) in
-      let c = neither (signalsAbove (w .signals) (stageOf (w .phase))) _ (b .1) in
-      let d = neither (bitsAbove mostParameters (parametersOf w) ws) _ (c .1) in
-      let e = neither (notZeroFrom mostParameters (parametersOf w) ws) _ (d .1) in
-      (a .0, d .0, e .0)
+  fine : Unbroken w ws
+  fine = unbroken w ws (passed .whole)
 
   pub passed-few : listBytes ≡ length (w .rule) → parametersOf w ≤ mostParameters
-  passed-few held = held-few w (parts .0) (sym held)
+  passed-few held = held-few w (fine .lists) (sym held)
 
   pub passed-most : w .records ≤ mostRecords
-  passed-most = held-most w (parts .0)
+  passed-most = held-most w (fine .lists)
 
   pub passed-sound : listBytes ≡ length (w .rule) → Sound (w .rule) (planOf w)
   unfolding parametersOf ruleOf
-  passed-sound held = sound w (parametersOf w) (sym held) (parts .0) refl
+  passed-sound held = sound w (parametersOf w) (sym held) (fine .lists) refl
 
   pub passed-tidy : listBytes ≡ length (w .rule) → Tidy mostParameters (parametersOf w) ws
   passed-tidy held =
-      tidy mostParameters (parametersOf w) ws (passed-few held) (passed .long) (passed .small) (parts .1) (parts .2)
+      tidy mostParameters (parametersOf w) ws (passed-few held) (passed .long) (passed .small) (fine .bits)
+      (fine .unused)
 
 -- lists that are accepted
 pub lists-most : (rule signals : List ℕ) → listsRefusal rule signals ≡ Fine → recordsOf rule ≤ mostRecords

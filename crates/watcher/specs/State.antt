@@ -51,8 +51,8 @@ signalsAbove signals fresh = false
 signalsAbove signals (running e) = leb (2 ^ signals) (e .signals)
 signalsAbove signals (closed b) = false
 
--- or the past rows are not those that a state must have in its phase: when fresh, one is not zero; when running, one is
--- not what it must be after the last record; when closed, any will do
+-- or the past rows are not those that a state must have in its phase: when fresh, one is not zero; when running, one
+-- is not what it must be after the last record; when closed, any will do
 unfoldable pub wrongInPhase : Watcher → List ℕ → Stage → Bool
 wrongInPhase w ws fresh = notZeroFrom mostParameters 0 ws
 wrongInPhase w ws (running e) = wrongRows (ruleOf w) (parametersOf w) e (pastIn (parametersOf w) ws)
