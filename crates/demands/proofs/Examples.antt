@@ -17,8 +17,9 @@ use Rattle.meaning.specs.Rewriting.{derivedRows, sinceEarlier, pastRow, pastRow
 use Rattle.meaning.specs.Words.{start, first, feed, close, wordFor, word, wordOf}
 use Rattle.rewriting.specs.Decode.{byteOf, intervalOf, nodeOf, nodeIn, ruleIn}
 use Rattle.watcher.specs.Numbers.{refusalNumber}
-use Rattle.watcher.specs.Rules.{recordsOf, wrongLength, usedBytes, uses, fairLimits, usedRight}
-use Rattle.watcher.specs.Rules.{byteBreaks, recordBreaks, ruleBreaks, sameRecord, hasTwins, manyParameters}
+use Rattle.watcher.specs.Places.{isFound, orElse, firstWhere}
+use Rattle.watcher.specs.Rules.{recordsOf, wrongLengthIn, usedBytes, uses, fairLimits, usedRight}
+use Rattle.watcher.specs.Rules.{byteBreaks, firstBroken, sameRecord, firstTwins, manyParameters}
 use Rattle.watcher.specs.Signals.{signalBreaks, wrongSignals, namesMissing, limitOf}
 use Rattle.watcher.specs.Records.{wrongRecord, timeOf, temperatureOf, windOf, windMeets, meets, signalHolds, signalWord}
 use Rattle.watcher.specs.Records.{entryOf}
@@ -45,8 +46,8 @@ unfolding table passes fold someIn everyIn tab bit ofBits little constant parame
     whichConstant distance inside shifts shifted moved nodeAt count firstOf parameters entryAt timeAt holds nextAt
     untilAt sinceAt meaning values valueOf larger later horizonOf horizons horizon put onlyIf formOf formsOf
     parameterTo rowTo nextRow untilLater derivedRow derivedRows sinceEarlier pastRow pastRows start first feed close
-    wordFor word refusalNumber byteOf recordsOf wrongLength usedBytes uses fairLimits usedRight byteBreaks
-    recordBreaks ruleBreaks sameRecord hasTwins intervalOf nodeOf nodeIn ruleIn signalBreaks wrongSignals namesMissing
+    wordFor word refusalNumber byteOf recordsOf wrongLengthIn usedBytes uses fairLimits usedRight byteBreaks
+    firstBroken sameRecord firstTwins intervalOf nodeOf nodeIn ruleIn signalBreaks wrongSignals namesMissing
     limitOf wrongRecord timeOf temperatureOf windOf windMeets meets signalHolds signalWord entryOf firstRefusal isRefused wordOf manyParameters
-    listTests listsRefusal lastTime accepts logWith readRule parametersIn
+    listTests listsRefusal lastTime accepts logWith readRule parametersIn isFound orElse firstWhere
 examples = refl
