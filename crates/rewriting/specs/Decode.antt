@@ -14,9 +14,12 @@ use Rattle.rewriting.specs.declared.step.Record.{Record}
 abbrev pub recordBytes : ℕ
 recordBytes = 8
 
--- byte i of record k of a list
-unfoldable pub byteOf : List ℕ → ℕ → ℕ → ℕ
-byteOf list k i = getD list (recordBytes * k + i) 0
+-- byte i of record k of a list whose records have so many bytes, and of a list of rule or signal records
+abbrev pub byteIn : (size : ℕ) → List ℕ → (k i : ℕ) → ℕ
+byteIn size list k i = getD list (size * k + i) 0
+
+unfoldable pub byteOf : List ℕ → (k i : ℕ) → ℕ
+byteOf list k i = byteIn recordBytes list k i
 
 -- whether an interval has no upper end: high is 255
 unfoldable pub endless : (kind high : ℕ) → Bool

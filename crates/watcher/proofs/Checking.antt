@@ -3,18 +3,20 @@
 use mathlib.Core.Path.{_≡_, refl, ap, sym, _∙_}
 use mathlib.Core.Bool.{Bool, true, false, not}
 use mathlib.Core.List.{List, []}
-use Prim.Native.Nat.{ℕ, _%_, _≤_, _<_}
+use Prim.Native.Nat.{ℕ, suc, _+_, _*_, _/_, _%_, _≤_, _<_}
+use native.Mathlib.Nat.{mul-suc, mul-le-mul-left, mul-div-le}
 use native.Mathlib.Omega.{arith}
 use borrow.Author.Tests.{leb-true, lt-leb, le-leb, eq-eqb, ne-eqb}
 use lib.Dec.{eqb, leb, ltb}
 use lib.ListN.{length, getD, List·getD-eq-default}
 use Rattle.ground.specs.Fold.{fold, some}
-use Rattle.ground.proofs.Folds.{every-at, some-at, some-none}
+use Rattle.ground.proofs.Folds.{every-at}
 use Rattle.rewriting.specs.Decode.{recordBytes}
 use Rattle.watcher.specs.Limits.{mostRecords, mostSignals, listBytes}
 use Rattle.rewriting.specs.Decode.{byteOf}
-use Rattle.watcher.specs.Rules.{recordsOf, wrongLength, usedBytes, uses, fairLimits, usedRight}
-use Rattle.watcher.specs.Rules.{byteBreaks, sameRecord, hasTwins}
+use Rattle.watcher.specs.Rules.{recordsOf, wrongLengthIn, usedBytes, uses, fairLimits, usedRight}
+use Rattle.watcher.specs.Rules.{byteBreaks, firstBroken, ruleBreaks, sameRecord, firstTwins, hasTwins}
+use Rattle.watcher.proofs.Places.{where-some}
 
 -- the table of used bytes is false past its ends
 pub uses-no-kind : (kind i : ℕ) → 10 ≤ kind → uses kind i ≡ false
@@ -29,19 +31,19 @@ uses-no-byte kind i h l =
     List·getD-eq-default (getD usedBytes kind []) false (omega arith)
 
 -- lengths
-module _ (list : List ℕ) where
-  pub length-none : length list % recordBytes ≡ 0 → length list ≡ 0 → true ≡ wrongLength list
-  unfolding wrongLength
-  length-none m e = rw (eq-eqb (length list % recordBytes) 0 m, eq-eqb (length list) 0 e)
+module _ (size most : ℕ) (list : List ℕ) where
+  pub length-none : length list % size ≡ 0 → length list ≡ 0 → true ≡ wrongLengthIn size most list
+  unfolding wrongLengthIn
+  length-none m e = rw (eq-eqb (length list % size) 0 m, eq-eqb (length list) 0 e)
 
-  pub length-some : length list % recordBytes ≡ 0 → (length list ≡ 0 → ⊥)
-      → ltb listBytes (length list) ≡ wrongLength list
-  unfolding wrongLength
-  length-some m n = rw (eq-eqb (length list % recordBytes) 0 m, ne-eqb (length list) 0 n)
+  pub length-some : length list % size ≡ 0 → (length list ≡ 0 → ⊥)
+      → ltb most (length list / size) ≡ wrongLengthIn size most list
+  unfolding wrongLengthIn
+  length-some m n = rw (eq-eqb (length list % size) 0 m, ne-eqb (length list) 0 n)
 
-  pub length-odd : (length list % recordBytes ≡ 0 → ⊥) → true ≡ wrongLength list
-  unfolding wrongLength
-  length-odd n = rw (ne-eqb (length list % recordBytes) 0 n)
+  pub length-odd : (length list % size ≡ 0 → ⊥) → true ≡ wrongLengthIn size most list
+  unfolding wrongLengthIn
+  length-odd n = rw (ne-eqb (length list % size) 0 n)
 
 -- limits
 pub fair-onward : (low high : ℕ) → high ≡ 255 → leb low 254 ≡ fairLimits low high
@@ -97,20 +99,22 @@ pub records-few : (list : List ℕ) (n : ℕ) → n ≡ recordsOf list → lengt
 unfolding recordsOf
 records-few list n e h = omega arith
 
+-- a record that a list has lies inside it
+pub record-inside : (size i n : ℕ) → i < n / size → size * i + size ≤ n
+record-inside size i n h =
+    let most : size * suc i ≤ size * (n / size) = mul-le-mul-left size h in
+    omega (arith, most, mul-div-le n size, mul-suc size i)
+
 -- two bytes that differ
 pub bytes-differ : (a b x y : ℕ) → a ≡ x → b ≡ y → (a ≡ b → ⊥) → eqb x y ≡ false
 bytes-differ a b x y p q n = ne-eqb x y (λ e. n (p ∙ e ∙ sym q))
 
--- twins
-module _ (list : List ℕ) (n : ℕ) (is : n ≡ recordsOf list) where
-  pub twins-found : (i j : ℕ) (r : Bool) → r ≡ sameRecord list i j → r ≡ true → j < i → i < n → true ≡ hasTwins list
-  unfolding hasTwins
-  twins-found i j r s t h l =
-      sym (some-at (recordsOf list) (λ a. some a (sameRecord list a)) i (omega arith)
-      (some-at i (sameRecord list i) j h (sym s ∙ t)))
+-- a rule breaks the layout where some byte of some record does, and has twins where some record has an earlier one
+module _ (rule : List ℕ) where
+  pub breaks-some : ruleBreaks rule ≡ some (recordsOf rule) (λ k. some recordBytes (byteBreaks rule k))
+  unfolding firstBroken recordsOf
+  breaks-some = where-some _ _ _
 
-  pub twins-none : (i : ℕ) (found : Bool) → found ≡ false → ((a : ℕ) → a < i → some a (sameRecord list a) ≡ false)
-      → n ≤ i → found ≡ hasTwins list
-  unfolding hasTwins
-  twins-none i found e all h =
-      e ∙ sym (some-none (recordsOf list) (λ a. some a (sameRecord list a)) (λ a l. all a (omega arith)))
+  pub twins-some : hasTwins rule ≡ some (recordsOf rule) (λ i. some i (sameRecord recordBytes rule i))
+  unfolding firstTwins recordsOf
+  twins-some = where-some _ _ _

@@ -4,7 +4,7 @@ use mathlib.Core.Path.{_≡_, refl, sym, ap, _∙_, subst}
 use mathlib.Core.Bool.{Bool, true, false, not, _&&_, _||_, cond, false≢true, and-eq-true-iff}
 use mathlib.Core.Logic.{⊎-elim}
 use mathlib.Core.List.{List, _++_}
-use Prim.Native.Nat.{ℕ, _+_, _*_, _%_, _≤_, _<_}
+use Prim.Native.Nat.{ℕ, _+_, _*_, _/_, _%_, _≤_, _<_}
 use native.Mathlib.Omega.{arith}
 use lib.Dec.{eqb, leb, ltb}
 use lib.ListN.{length, List·getD-append}
@@ -18,15 +18,16 @@ use Rattle.watcher.specs.declared.state.Refusal.{Refusal}
 use Rattle.watcher.specs.declared.state.Found.{Found}
 use Rattle.watcher.specs.declared.state.Found.the-variants.{Fine, Refused}
 use Rattle.rewriting.specs.Decode.{byteOf}
-use Rattle.watcher.specs.Rules.{recordsOf, wrongLength, usedBytes, uses, fairLimits, usedRight}
+use Rattle.watcher.specs.Rules.{recordsOf, wrongLengthIn, wrongLength, usedBytes, uses, fairLimits, usedRight}
 use Rattle.rewriting.specs.Decode.{recordIn, nodeIn, ruleIn}
-use Rattle.watcher.specs.Rules.{byteBreaks, recordBreaks, ruleBreaks, hasTwins}
+use Rattle.watcher.specs.Rules.{byteBreaks, ruleBreaks, hasTwins}
 use Rattle.watcher.specs.Signals.{wrongSignals, namesMissing}
 use Rattle.watcher.specs.Lists.{firstRefusal, listTests, listsRefusal}
 use Rattle.watcher.specs.Rules.{manyParameters}
 use Rattle.watcher.specs.Limits.{mostParameters}
 use Rattle.rewriting.proofs.Rules.{length-ruleIn, node-in, node-past, node-same}
 use Rattle.rewriting.proofs.ByKind.{by-kind}
+use Rattle.watcher.proofs.Checking.{breaks-some}
 
 -- each test of the lists fails
 pub record Accepted (rule signals : List ℕ) : Type 0 where
@@ -69,16 +70,20 @@ pub record Whole (list : List ℕ) : Type 0 where
   pub most : recordsOf list ≤ 16
 
 pub length-fine : (list : List ℕ) → wrongLength list ≡ false → Whole list
-unfolding wrongLength recordsOf
+unfolding wrongLengthIn recordsOf
 length-fine list e =
     let a = neither (not (eqb (length list % 8) 0)) _ e in
     let b = neither (eqb (length list) 0) _ (a .1) in
     let w : length list % 8 ≡ 0 = eqb-true _ _ (not-false _ (a .0)) in
     let s : length list ≡ 0 → ⊥ = eqb-false _ _ (b .0) in
-    let m : length list ≤ 128 = ltb-false _ _ (b .1) in
+    let m : length list / 8 ≤ 16 = ltb-false _ _ (b .1) in
     record { whole = omega arith; some = omega arith; most = omega arith }
 
--- a record that keeps the layout
+-- no byte of a record breaks the layout
+abbrev pub Keeps : List ℕ → ℕ → Type 0
+Keeps list k = (i : ℕ) → i < 8 → byteBreaks list k i ≡ false
+
+-- what such a record holds
 pub record Laid (list : List ℕ) (k : ℕ) : Type 0 where
   pub low : 1 ≤ byteOf list k 0
   pub high : byteOf list k 0 ≤ 9
@@ -88,14 +93,14 @@ pub record Laid (list : List ℕ) (k : ℕ) : Type 0 where
   pub limits : uses (byteOf list k 0) 4 ≡ true → fairLimits (byteOf list k 4) (byteOf list k 5) ≡ true
 
 -- a used byte of a record that keeps the layout is what the kind wants there
-byte-fine : (list : List ℕ) (k i : ℕ) → recordBreaks list k ≡ false → i < 8
+byte-fine : (list : List ℕ) (k i : ℕ) → Keeps list k → i < 8
     → (eqb i 0 || uses (byteOf list k 0) i) ≡ true → usedRight list k i ≡ true
-unfolding recordBreaks byteBreaks
+unfolding byteBreaks
 byte-fine list k i e h u =
     ap (λ b. cond b (usedRight list k i) (eqb (byteOf list k i) 0)) (sym u)
-    ∙ not-false _ (none-at 8 (byteBreaks list k) e i h)
+    ∙ not-false _ (e i h)
 
-pub record-fine : (list : List ℕ) (k : ℕ) → recordBreaks list k ≡ false → Laid list k
+pub record-fine : (list : List ℕ) (k : ℕ) → Keeps list k → Laid list k
 unfolding usedRight uses usedBytes
 record-fine list k e =
     record {
@@ -158,7 +163,7 @@ node-fine list k c a named =
 
 -- the rule in the first n records of a list
 module _ (list : List ℕ) (n : ℕ) where
-  module _ (laid : (k : ℕ) → k < n → recordBreaks list k ≡ false) where
+  module _ (laid : (k : ℕ) → k < n → Keeps list k) where
     nodes-fine : (c : ℕ) → ((k : ℕ) → k < n → byteOf list k 0 ≡ 3 → byteOf list k 1 < c) → (k : ℕ)
         → Earlier k (nodeAt (ruleIn list n) k) × Names c (nodeAt (ruleIn list n) k)
     unfolding Earlier
@@ -191,9 +196,9 @@ module _ (list rest : List ℕ) where
 
 -- lists that are accepted hold a rule of 1 to 16 records, in order, with at most 12 parameters and known signals
 module _ (rule signals : List ℕ) (fine : Accepted rule signals) where
-  pub accepted-laid : (k : ℕ) → k < recordsOf rule → recordBreaks rule k ≡ false
-  unfolding ruleBreaks
-  accepted-laid = none-at (recordsOf rule) (recordBreaks rule) (fine .laid)
+  pub accepted-laid : (k : ℕ) → k < recordsOf rule → Keeps rule k
+  accepted-laid k h =
+      none-at 8 (byteBreaks rule k) (none-at (recordsOf rule) _ (sym (breaks-some rule) ∙ fine .laid) k h)
 
   pub accepted-some : 0 < length (ruleIn rule (recordsOf rule))
   accepted-some = rw length-ruleIn (length-fine rule (fine .long) .some)

@@ -4,6 +4,7 @@ pub mod RecordLaws
 pub mod Channels
 pub mod Speed
 pub mod Decoded
+pub mod Places
 pub mod Checking
 pub mod Refusing
 pub mod HeldLaws

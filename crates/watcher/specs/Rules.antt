@@ -4,18 +4,27 @@ use mathlib.Core.List.{List, [], _∷_}
 use Prim.Native.Nat.{ℕ, _/_, _%_}
 use lib.Dec.{eqb, leb, ltb}
 use lib.ListN.{length, getD}
-use Rattle.ground.specs.Fold.{every, some}
+use Rattle.ground.specs.Fold.{every}
 use Rattle.meaning.specs.Rule.{parameters}
-use Rattle.rewriting.specs.Decode.{recordBytes, byteOf, ruleIn}
-use Rattle.watcher.specs.Limits.{mostSignals, mostParameters, listBytes}
+use Rattle.rewriting.specs.Decode.{recordBytes, byteIn, byteOf, ruleIn}
+use Rattle.watcher.specs.declared.state.Place.{Place}
+use Rattle.watcher.specs.Limits.{mostRecords, mostSignals, mostParameters}
+use Rattle.watcher.specs.Places.{isFound, firstWhere}
 
--- how many records a list has
+-- how many records of so many bytes a list has, and how many rule or signal records
+abbrev pub recordsIn : (size : ℕ) → List ℕ → ℕ
+recordsIn size list = length list / size
+
 unfoldable pub recordsOf : List ℕ → ℕ
-recordsOf list = length list / recordBytes
+recordsOf list = recordsIn recordBytes list
 
--- a length that is not a multiple of 8, or not 1 to 16 records
-unfoldable pub wrongLength : List ℕ → Bool
-wrongLength list = not (eqb (length list % recordBytes) 0) || (eqb (length list) 0 || ltb listBytes (length list))
+-- a length that is not a multiple of a record's, or not 1 to `most` records
+unfoldable pub wrongLengthIn : (size most : ℕ) → List ℕ → Bool
+wrongLengthIn size most list =
+    not (eqb (length list % size) 0) || (eqb (length list) 0 || ltb most (recordsIn size list))
+
+abbrev pub wrongLength : List ℕ → Bool
+wrongLength list = wrongLengthIn recordBytes mostRecords list
 
 -- for each kind, which of the eight bytes are used: kind, left, right, zero, low, high, zero, zero
 unfoldable pub usedBytes : List (List Bool)
@@ -50,20 +59,23 @@ usedRight list k i =
 unfoldable pub byteBreaks : List ℕ → ℕ → ℕ → Bool
 byteBreaks list k i = not (cond (eqb i 0 || uses (byteOf list k 0) i) (usedRight list k i) (eqb (byteOf list k i) 0))
 
--- a record breaks the layout
-unfoldable pub recordBreaks : List ℕ → ℕ → Bool
-recordBreaks list k = some recordBytes (byteBreaks list k)
+-- where the layout is first broken, byte by byte: the lowest record, and its lowest byte
+unfoldable pub firstBroken : (size : ℕ) → (breaks : List ℕ → ℕ → ℕ → Bool) → List ℕ → Place
+firstBroken size breaks list = firstWhere (recordsIn size list) (λ k. size) (breaks list)
 
-unfoldable pub ruleBreaks : List ℕ → Bool
-ruleBreaks list = some (recordsOf list) (recordBreaks list)
+abbrev pub ruleBreaks : List ℕ → Bool
+ruleBreaks rule = isFound (firstBroken recordBytes byteBreaks rule)
 
--- records i and j have the same eight bytes
-unfoldable pub sameRecord : List ℕ → ℕ → ℕ → Bool
-sameRecord list i j = every recordBytes (λ b. eqb (byteOf list i b) (byteOf list j b))
+-- records i and j have the same bytes
+unfoldable pub sameRecord : (size : ℕ) → List ℕ → (i j : ℕ) → Bool
+sameRecord size list i j = every size (λ b. eqb (byteIn size list i b) (byteIn size list j b))
 
--- two records have the same eight bytes: some record has an earlier twin
-unfoldable pub hasTwins : List ℕ → Bool
-hasTwins list = some (recordsOf list) (λ i. some i (sameRecord list i))
+-- where the first twins are: the lowest record that has an earlier twin, and its earliest twin
+unfoldable pub firstTwins : (size : ℕ) → List ℕ → Place
+firstTwins size list = firstWhere (recordsIn size list) (λ i. i) (sameRecord size list)
+
+abbrev pub hasTwins : List ℕ → Bool
+hasTwins rule = isFound (firstTwins recordBytes rule)
 
 -- more parameters than a rule may have, counted over all its records
 unfoldable pub manyParameters : List ℕ → Bool

@@ -1,13 +1,14 @@
 // The checks of a rule list, and how many parameters its rule has.
 ghost use mathlib.Core.Path.{_≡_};
-ghost use Prim.Native.Nat.{_<_, _≤_};
+ghost use Prim.Native.Nat.{_+_, _*_, _<_, _≤_};
 ghost use lib.ListN.{length};
 ghost use Rattle.rewriting.specs.Decode.{recordBytes};
 ghost use Rattle.watcher.specs.Limits.{mostRecords, listBytes};
-ghost use Rattle.watcher.specs.Rules.{recordsOf, wrongLength, uses, fairLimits, usedRight, byteBreaks};
-ghost use Rattle.watcher.specs.Rules.{recordBreaks, ruleBreaks, sameRecord, hasTwins};
-ghost use Rattle.watcher.specs.Rules.{manyParameters};
+ghost use Rattle.watcher.specs.Rules.{recordsOf, wrongLengthIn, uses, fairLimits, usedRight, byteBreaks};
+ghost use Rattle.watcher.specs.Rules.{firstBroken, sameRecord, firstTwins, manyParameters};
+use crate::state::Place;
 use crate::state::Watcher;
+use ground::bytes::byte;
 use rewriting::rule::byte_of;
 use rewriting::rule::parameters_in;
 
@@ -50,15 +51,16 @@ pub(crate) fn records_of(list: &[u8]) -> usize
     list.len() / Watcher::RECORD_BYTES
 }
 
-// Whether the length is not that of 1 to 16 whole records.
-pub(crate) fn wrong_length(list: &[u8]) -> bool
-    ensures { λ r. ⌜ r ≡ wrongLength (now (list .entry)) ⌝ }
+// Whether the length is not that of 1 to `most` whole records of `size` bytes.
+pub(crate) fn wrong_length(list: &[u8], size: usize, most: usize) -> bool
+    requires { ⌜ 0 < size ⌝ }
+    ensures { λ r. ⌜ r ≡ wrongLengthIn size most (now (list .entry)) ⌝ }
 {
-    if list.len() % Watcher::RECORD_BYTES == 0 {
+    if list.len() % size == 0 {
         if list.len() == 0 {
             true
         } else {
-            Watcher::LIST_BYTES < list.len()
+            most < list.len() / size
         }
     } else {
         true
@@ -107,62 +109,57 @@ pub(crate) fn byte_breaks(list: &[u8], k: usize, i: usize) -> bool
     }
 }
 
-// Whether record `k` breaks the layout.
-pub(crate) fn record_breaks(list: &[u8], k: usize) -> bool
-    requires { ⌜ k < mostRecords ⌝ }
-    ensures { λ r. ⌜ r ≡ recordBreaks (now (list .entry)) k ⌝ }
-{
-    for i in 0..Watcher::RECORD_BYTES {
-        if byte_breaks(list, k, i) {
-            return true;
-        }
-    }
-    false
-}
-
-// Whether some record breaks the layout.
-pub(crate) fn rule_breaks(list: &[u8]) -> bool
+// Where the layout is first broken: the lowest record, and its lowest byte.
+pub(crate) fn first_broken(list: &[u8]) -> Place
     requires { ⌜ length (now list) ≤ listBytes ⌝ }
-    ensures { λ r. ⌜ r ≡ ruleBreaks (now (list .entry)) ⌝ }
+    ensures { λ r. ⌜ r ≡ firstBroken recordBytes byteBreaks (now (list .entry)) ⌝ }
 {
     let records = records_of(list);
     for k in 0..records {
-        if record_breaks(list, k) {
-            return true;
+        for i in 0..Watcher::RECORD_BYTES {
+            if byte_breaks(list, k, i) {
+                return Place::At {
+                    record: k,
+                    second: i,
+                };
+            }
         }
     }
-    false
+    Place::Nowhere
 }
 
-// Whether records `i` and `j` have the same eight bytes.
-pub(crate) fn same_record(list: &[u8], i: usize, j: usize) -> bool
-    requires { ⌜ (i < mostRecords) × (j < mostRecords) ⌝ }
-    ensures { λ r. ⌜ r ≡ sameRecord (now (list .entry)) i j ⌝ }
+// Whether records `i` and `j`, of `size` bytes, have the same bytes.
+pub(crate) fn same_record(list: &[u8], size: usize, i: usize, j: usize) -> bool
+    requires { ⌜ (size * i + size ≤ length (now list)) × (size * j + size ≤ length (now list)) ⌝ }
+    ensures { λ r. ⌜ r ≡ sameRecord size (now (list .entry)) i j ⌝ }
 {
-    for b in 0..Watcher::RECORD_BYTES {
-        if byte_of(list, i, b) != byte_of(list, j, b) {
+    let left = size * i;
+    let right = size * j;
+    for b in 0..size {
+        if byte(list, left + b) != byte(list, right + b) {
             return false;
         }
     }
     true
 }
 
-// Whether some record has an earlier twin: the first equal pair ends the search.
-pub(crate) fn has_twins(list: &[u8]) -> bool
-    requires { ⌜ length (now list) ≤ listBytes ⌝ }
-    ensures { λ r. ⌜ r ≡ hasTwins (now (list .entry)) ⌝ }
+// Where the first twins are: the lowest record that has an earlier twin, and its earliest twin.
+pub(crate) fn first_twins(list: &[u8], size: usize) -> Place
+    requires { ⌜ 0 < size ⌝ }
+    ensures { λ r. ⌜ r ≡ firstTwins size (now (list .entry)) ⌝ }
 {
-    let records = records_of(list);
-    let mut found = false;
-    'pairs: for i in 0..records {
+    let records = list.len() / size;
+    for i in 0..records {
         for j in 0..i {
-            if same_record(list, i, j) {
-                found = true;
-                break 'pairs;
+            if same_record(list, size, i, j) {
+                return Place::At {
+                    record: i,
+                    second: j,
+                };
             }
         }
     }
-    found
+    Place::Nowhere
 }
 
 // Whether the rule has more parameters than it may.

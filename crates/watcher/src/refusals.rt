@@ -1,8 +1,8 @@
 // Which refusal, if any, in document 01's order, and its number.
-use crate::lists::has_twins;
+use crate::lists::first_broken;
+use crate::lists::first_twins;
 use crate::lists::many_parameters;
 use crate::lists::records_of;
-use crate::lists::rule_breaks;
 use crate::lists::wrong_length;
 use crate::readings::time_of;
 use crate::readings::wrong_record;
@@ -14,38 +14,53 @@ use crate::state::Phase;
 use crate::state::Refusal;
 use crate::state::Watcher;
 ghost use mathlib.Core.Path.{_≡_};
-ghost use Rattle.watcher.specs.Lists.{firstRefusal};
+ghost use Rattle.watcher.specs.Lists.{firstRefusal, ruleRefusal};
 ghost use Rattle.watcher.specs.Calls.{isClosed, isFresh, tooEarly};
 ghost use Rattle.watcher.specs.Calls.{startRefusal, stateTests, feedRefusal, closeRefusal};
 ghost use Rattle.watcher.specs.Numbers.{stageOf};
 ghost use Rattle.watcher.specs.Clauses.{CheckListsClause, NumberClause};
 
+// What is refused of a rule by itself: refusals 1 to 3.
+pub(crate) fn check_rule(rule: &[u8]) -> Found
+    ensures { λ r. ⌜ r ≡ ruleRefusal (now (rule .entry)) ⌝ }
+{
+    if wrong_length(rule, Watcher::RECORD_BYTES, Watcher::RECORDS) {
+        return Found::Refused(Refusal::RuleLength);
+    }
+    let broken = first_broken(rule);
+    if broken.is_found() {
+        return Found::Refused(Refusal::RuleRecord);
+    }
+    let twins = first_twins(rule, Watcher::RECORD_BYTES);
+    if twins.is_found() {
+        return Found::Refused(Refusal::RuleTwins);
+    }
+    Found::Fine
+}
+
 // What is refused of the lists that start is given: refusals 1 to 6.
 pub fn check_lists(rule: &[u8], signals: &[u8]) -> Found
     ensures { λ r. ⌜ CheckListsClause (now (rule .entry)) (now (signals .entry)) r ⌝ }
 {
-    if wrong_length(rule) {
-        return Found::Refused(Refusal::RuleLength);
+    let found = check_rule(rule);
+    match found {
+        Found::Refused(refusal) => Found::Refused(refusal),
+        Found::Fine => {
+            if many_parameters(rule) {
+                return Found::Refused(Refusal::RuleParameters);
+            }
+            if wrong_length(signals, Watcher::RECORD_BYTES, Watcher::RECORDS) {
+                return Found::Refused(Refusal::SignalList);
+            }
+            if bad_signals(signals) {
+                return Found::Refused(Refusal::SignalList);
+            }
+            if names_missing(rule, records_of(signals)) {
+                return Found::Refused(Refusal::SignalMissing);
+            }
+            Found::Fine
+        }
     }
-    if rule_breaks(rule) {
-        return Found::Refused(Refusal::RuleRecord);
-    }
-    if has_twins(rule) {
-        return Found::Refused(Refusal::RuleTwins);
-    }
-    if many_parameters(rule) {
-        return Found::Refused(Refusal::RuleParameters);
-    }
-    if wrong_length(signals) {
-        return Found::Refused(Refusal::SignalList);
-    }
-    if bad_signals(signals) {
-        return Found::Refused(Refusal::SignalList);
-    }
-    if names_missing(rule, records_of(signals)) {
-        return Found::Refused(Refusal::SignalMissing);
-    }
-    Found::Fine
 }
 
 // What is refused of a start: refusals 1 to 7.

@@ -1,6 +1,8 @@
 // The watcher's state, its limits, and its answers.
 use rewriting::rule::RECORD_BYTES;
 use rewriting::step::Moment;
+ghost use mathlib.Core.Path.{_≡_};
+ghost use Rattle.watcher.specs.Places.{isFound};
 ghost use Rattle.watcher.specs.Clauses.{LimitsClause, IsRefusedClause, WordClause, LastClause, ZeroStateClause};
 
 // The word after a record.
@@ -37,6 +39,12 @@ pub enum Refusal {
     AlreadyClosed,
     NothingFed,
     BrokenState,
+}
+
+// Where a search of a list first finds something: nowhere, or at a record and, second, its byte or an earlier record.
+pub enum Place {
+    Nowhere,
+    At { record: usize, second: usize },
 }
 
 // What a check finds.
@@ -114,6 +122,21 @@ impl Found {
         match self {
             Found::Fine => false,
             Found::Refused(_) => true,
+        }
+    }
+}
+
+impl Place {
+    // Whether something was found.
+    pub(crate) fn is_found(self) -> bool
+        ensures { λ r. ⌜ r ≡ isFound self ⌝ }
+    {
+        match self {
+            Place::Nowhere => false,
+            Place::At {
+                record: _,
+                second: _,
+            } => true,
         }
     }
 }

@@ -1,39 +1,51 @@
 -- `lists::same_record` meets its contract: the bytes before `b` are the same.
 -- Assumes nothing.
 use mathlib.Core.Path.{_≡_, sym, _∙_}
-use Prim.Native.Nat.{ℕ, _-_, _≤_, _<_}
+use Prim.Native.Nat.{ℕ, _+_, _-_, _≤_, _<_}
 use native.Mathlib.Omega.{arith}
-use borrow.Author.Count.{below-more}
+use borrow.Author.Count.{below-none, below-more}
 use borrow.Author.Tests.{eq-eqb}
 use borrow.Author.Needs.{needs}
+use lib.ListN.{getD}
 use Rattle.ground.proofs.Folds.{every-all, every-not}
-use Rattle.rewriting.specs.Decode.{recordBytes}
-use Rattle.rewriting.specs.Decode.{byteOf}
 use Rattle.watcher.specs.Rules.{sameRecord}
 use Rattle.watcher.proofs.Checking.{bytes-differ}
 use Rattle.watcher.proofs.lists.same_record.Statement.{statement}
 use Rattle.watcher.proofs.lists.same_record.Tie as tie
 
 abbrev Inv-loop : tie.InvT-loop
-Inv-loop list i j b₀ b = (b ≤ recordBytes) × ((a : ℕ) → a < b → byteOf list i a ≡ byteOf list j a)
+Inv-loop list size i j left right b₀ b =
+    (b ≤ size) × ((a : ℕ) → a < b → getD list (left + a) 0 ≡ getD list (right + a) 0)
 
 abbrev μ-loop : tie.MeasureT-loop
-μ-loop list i j b₀ b = recordBytes - b
+μ-loop list size i j left right b₀ b = size - b
+
+mul-left : tie.Need-mul-left Inv-loop μ-loop
+mul-left c = search needs
+
+mul-right : tie.Need-mul-right Inv-loop μ-loop
+mul-right c = search needs
 
 loop-holds : tie.Need-loop-holds Inv-loop μ-loop
-loop-holds c = search needs
+loop-holds c = (search needs, below-none _)
 
-byte-of-requires : tie.Need-byte-of-requires Inv-loop μ-loop
-byte-of-requires c κs = search needs
+add-byte : tie.Need-add-byte Inv-loop μ-loop
+add-byte c = search needs
 
-byte-of-requires-2 : tie.Need-byte-of-requires-2 Inv-loop μ-loop
-byte-of-requires-2 c κs = search needs
+byte-requires : tie.Need-byte-requires Inv-loop μ-loop
+byte-requires c κs = search needs
+
+add-byte-2 : tie.Need-add-byte-2 Inv-loop μ-loop
+add-byte-2 c = search needs
+
+byte-requires-2 : tie.Need-byte-requires-2 Inv-loop μ-loop
+byte-requires-2 c κs = search needs
 
 returns : tie.Need-returns Inv-loop μ-loop
 unfolding sameRecord
 returns c =
-    sym (every-not recordBytes _ _ (c .before .before .before .loop-test .taken)
-    (bytes-differ _ _ _ _ (c .before .before .byte-of .ensures) (c .before .byte-of2 .ensures) (c .if1 .taken)))
+    sym (every-not _ _ _ (c .before .before .before .loop-test .taken)
+    (bytes-differ _ _ _ _ (c .before .before .byte .ensures) (c .before .byte2 .ensures) (c .if1 .taken)))
 
 add-b : tie.Need-add-b Inv-loop μ-loop
 add-b c = search needs
@@ -45,12 +57,12 @@ loop-again : tie.Need-loop-again Inv-loop μ-loop
 loop-again c = (
   search needs,
   below-more _ _ (c .before .before .before .before .loop .inv .1)
-      (sym (c .before .before .byte-of .ensures) ∙ c .if1 .left ∙ c .before .byte-of2 .ensures),
+      (sym (c .before .before .byte .ensures) ∙ c .if1 .left ∙ c .before .byte2 .ensures),
 )
 
 returns-2 : tie.Need-returns-2 Inv-loop μ-loop
 unfolding sameRecord
-returns-2 c = sym (every-all recordBytes _ (λ a h. eq-eqb _ _ (c .before .loop .inv .1 a (omega arith))))
+returns-2 c = sym (every-all _ _ (λ a h. eq-eqb _ _ (c .before .loop .inv .1 a (omega arith))))
 
 pub same-record-spec : {M : Type 1} → statement M
 same-record-spec =
@@ -58,9 +70,13 @@ same-record-spec =
     (tie.spec
     Inv-loop
     μ-loop
+    mul-left
+    mul-right
     loop-holds
-    byte-of-requires
-    byte-of-requires-2
+    add-byte
+    byte-requires
+    add-byte-2
+    byte-requires-2
     returns
     add-b
     loop-less

@@ -1,95 +1,54 @@
--- `refusals::check_lists` makes the tests in document 01's order.
+-- `refusals::check_lists` makes the rule's tests, then the others in document 01's order.
 -- Assumes nothing.
 use mathlib.Core.Path.{sym, _∙_}
 use borrow.Author.Needs.{needs}
-use Rattle.watcher.proofs.Refusing.{length-most, refuse-length, refuse-record, refuse-twins, refuse-parameters}
-use Rattle.watcher.proofs.Refusing.{refuse-signals, refuse-missing, refuse-none}
-use Rattle.watcher.proofs.Refusing.{signals-length, signals-record, signals-fine, names-in}
+use Rattle.watcher.proofs.Refusing.{rule-most, refuse-rule, refuse-parameters, refuse-signals, refuse-missing}
+use Rattle.watcher.proofs.Refusing.{refuse-none, signals-length, signals-record, signals-fine, names-in}
 use Rattle.watcher.proofs.refusals.check_lists.Statement.{statement}
 use Rattle.watcher.proofs.refusals.check_lists.Tie as tie
+
+check-rule-requires : tie.Need-check-rule-requires
+check-rule-requires c κs = search needs
+
+enum-known-found : tie.Need-enum-known-found
+enum-known-found c = search needs
+
+enum-told : tie.Need-enum-told
+enum-told c = search needs
+
+many-parameters-requires : tie.Need-many-parameters-requires
+many-parameters-requires c κs =
+    rule-most _ (sym (c .enum-told .given .1) ∙ c .before .before .check-rule .ensures)
+
+returns : tie.Need-returns
+returns c =
+    let t = c .before .before in
+    refuse-parameters _ _ _ (t .before .before .check-rule .ensures) (t .enum-told .given .1)
+    (sym (c .before .many-parameters .ensures) ∙ c .if1 .taken)
 
 wrong-length-requires : tie.Need-wrong-length-requires
 wrong-length-requires c κs = search needs
 
-returns : tie.Need-returns
-returns c = refuse-length _ _ (sym (c .before .wrong-length .ensures) ∙ c .if1 .taken)
-
-rule-breaks-requires : tie.Need-rule-breaks-requires
-rule-breaks-requires c κs = length-most _ (sym (c .before .wrong-length .ensures) ∙ c .if1 .left)
-
 returns-2 : tie.Need-returns-2
 returns-2 c =
     let t₁ = c .before .before in
-    refuse-record _ _
-    (sym (t₁ .before .wrong-length .ensures) ∙ t₁ .if1 .left)
-    (sym (c .before .rule-breaks .ensures) ∙ c .if2 .taken)
+    let t = t₁ .before .before in
+    refuse-signals _ _ _ (t .before .before .check-rule .ensures) (t .enum-told .given .1)
+    (sym (t₁ .before .many-parameters .ensures) ∙ t₁ .if1 .left)
+    (signals-length _ (sym (c .before .wrong-length .ensures) ∙ c .if2 .taken))
 
-has-twins-requires : tie.Need-has-twins-requires
-has-twins-requires c κs =
-    let t₁ = c .before .before in
-    length-most _
-    (sym (t₁ .before .wrong-length .ensures) ∙ t₁ .if1 .left)
+bad-signals-requires : tie.Need-bad-signals-requires
+bad-signals-requires c κs = search needs
 
 returns-3 : tie.Need-returns-3
 returns-3 c =
     let t₂ = c .before .before in
     let t₁ = t₂ .before .before in
-    refuse-twins _ _
-    (sym (t₁ .before .wrong-length .ensures) ∙ t₁ .if1 .left)
-    (sym (t₂ .before .rule-breaks .ensures) ∙ t₂ .if2 .left)
-    (sym (c .before .has-twins .ensures) ∙ c .if3 .taken)
-
-many-parameters-requires : tie.Need-many-parameters-requires
-many-parameters-requires c κs =
-    let t₂ = c .before .before in
-    let t₁ = t₂ .before .before in
-    length-most _
-    (sym (t₁ .before .wrong-length .ensures) ∙ t₁ .if1 .left)
-
-returns-4 : tie.Need-returns-4
-returns-4 c =
-    let t₃ = c .before .before in
-    let t₂ = t₃ .before .before in
-    let t₁ = t₂ .before .before in
-    refuse-parameters _ _
-    (sym (t₁ .before .wrong-length .ensures) ∙ t₁ .if1 .left)
-    (sym (t₂ .before .rule-breaks .ensures) ∙ t₂ .if2 .left)
-    (sym (t₃ .before .has-twins .ensures) ∙ t₃ .if3 .left)
-    (sym (c .before .many-parameters .ensures) ∙ c .if4 .taken)
-
-wrong-length-requires-2 : tie.Need-wrong-length-requires-2
-wrong-length-requires-2 c κs = search needs
-
-returns-5 : tie.Need-returns-5
-returns-5 c =
-    let t₄ = c .before .before in
-    let t₃ = t₄ .before .before in
-    let t₂ = t₃ .before .before in
-    let t₁ = t₂ .before .before in
-    refuse-signals _ _
-    (sym (t₁ .before .wrong-length .ensures) ∙ t₁ .if1 .left)
-    (sym (t₂ .before .rule-breaks .ensures) ∙ t₂ .if2 .left)
-    (sym (t₃ .before .has-twins .ensures) ∙ t₃ .if3 .left)
-    (sym (t₄ .before .many-parameters .ensures) ∙ t₄ .if4 .left)
-    (signals-length _ (sym (c .before .wrong-length2 .ensures) ∙ c .if5 .taken))
-
-bad-signals-requires : tie.Need-bad-signals-requires
-bad-signals-requires c κs = search needs
-
-returns-6 : tie.Need-returns-6
-returns-6 c =
-    let t₅ = c .before .before in
-    let t₄ = t₅ .before .before in
-    let t₃ = t₄ .before .before in
-    let t₂ = t₃ .before .before in
-    let t₁ = t₂ .before .before in
-    refuse-signals _ _
-    (sym (t₁ .before .wrong-length .ensures) ∙ t₁ .if1 .left)
-    (sym (t₂ .before .rule-breaks .ensures) ∙ t₂ .if2 .left)
-    (sym (t₃ .before .has-twins .ensures) ∙ t₃ .if3 .left)
-    (sym (t₄ .before .many-parameters .ensures) ∙ t₄ .if4 .left)
-    (signals-record _ (sym (t₅ .before .wrong-length2 .ensures) ∙ t₅ .if5 .left)
-    (sym (c .before .bad-signals .ensures) ∙ c .if6 .taken))
+    let t = t₁ .before .before in
+    refuse-signals _ _ _ (t .before .before .check-rule .ensures) (t .enum-told .given .1)
+    (sym (t₁ .before .many-parameters .ensures) ∙ t₁ .if1 .left)
+    (signals-record _ (sym (t₂ .before .wrong-length .ensures) ∙ t₂ .if2 .left)
+    (sym (c .before .bad-signals .ensures) ∙ c .if3 .taken))
 
 records-of-requires : tie.Need-records-of-requires
 records-of-requires c κs = search needs
@@ -97,57 +56,48 @@ records-of-requires c κs = search needs
 names-missing-requires : tie.Need-names-missing-requires
 names-missing-requires c κs = search needs
 
-returns-7 : tie.Need-returns-7
-returns-7 c =
-    let t₆ = c .before .before .before in
-    let t₅ = t₆ .before .before in
-    let t₄ = t₅ .before .before in
-    let t₃ = t₄ .before .before in
+returns-4 : tie.Need-returns-4
+returns-4 c =
+    let t₃ = c .before .before .before in
     let t₂ = t₃ .before .before in
     let t₁ = t₂ .before .before in
-    refuse-missing _ _
-    (sym (t₁ .before .wrong-length .ensures) ∙ t₁ .if1 .left)
-    (sym (t₂ .before .rule-breaks .ensures) ∙ t₂ .if2 .left)
-    (sym (t₃ .before .has-twins .ensures) ∙ t₃ .if3 .left)
-    (sym (t₄ .before .many-parameters .ensures) ∙ t₄ .if4 .left)
-    (signals-fine _ (sym (t₅ .before .wrong-length2 .ensures) ∙ t₅ .if5 .left)
-    (sym (t₆ .before .bad-signals .ensures) ∙ t₆ .if6 .left))
-    (names-in _ _ _ _ _ (c .before .before .records-of .ensures) (c .before .names-missing .ensures) (c .if7 .taken))
+    let t = t₁ .before .before in
+    refuse-missing _ _ _ (t .before .before .check-rule .ensures) (t .enum-told .given .1)
+    (sym (t₁ .before .many-parameters .ensures) ∙ t₁ .if1 .left)
+    (signals-fine _ (sym (t₂ .before .wrong-length .ensures) ∙ t₂ .if2 .left)
+    (sym (t₃ .before .bad-signals .ensures) ∙ t₃ .if3 .left))
+    (names-in _ _ _ _ _ (c .before .before .records-of .ensures) (c .before .names-missing .ensures) (c .if4 .taken))
 
-returns-8 : tie.Need-returns-8
-returns-8 c =
-    let t₆ = c .before .before .before in
-    let t₅ = t₆ .before .before in
-    let t₄ = t₅ .before .before in
-    let t₃ = t₄ .before .before in
+returns-5 : tie.Need-returns-5
+returns-5 c = refuse-rule _ _ _ (c .before .before .before .check-rule .ensures) _ (c .before .found .given .1)
+
+returns-6 : tie.Need-returns-6
+returns-6 c =
+    let t₃ = c .before .before .before in
     let t₂ = t₃ .before .before in
     let t₁ = t₂ .before .before in
-    refuse-none _ _
-    (sym (t₁ .before .wrong-length .ensures) ∙ t₁ .if1 .left)
-    (sym (t₂ .before .rule-breaks .ensures) ∙ t₂ .if2 .left)
-    (sym (t₃ .before .has-twins .ensures) ∙ t₃ .if3 .left)
-    (sym (t₄ .before .many-parameters .ensures) ∙ t₄ .if4 .left)
-    (signals-fine _ (sym (t₅ .before .wrong-length2 .ensures) ∙ t₅ .if5 .left)
-    (sym (t₆ .before .bad-signals .ensures) ∙ t₆ .if6 .left))
-    (names-in _ _ _ _ _ (c .before .before .records-of .ensures) (c .before .names-missing .ensures) (c .if7 .left))
+    let t = t₁ .before .before in
+    refuse-none _ _ _ (t .before .before .check-rule .ensures) (t .enum-told .given .1)
+    (sym (t₁ .before .many-parameters .ensures) ∙ t₁ .if1 .left)
+    (signals-fine _ (sym (t₂ .before .wrong-length .ensures) ∙ t₂ .if2 .left)
+    (sym (t₃ .before .bad-signals .ensures) ∙ t₃ .if3 .left))
+    (names-in _ _ _ _ _ (c .before .before .records-of .ensures) (c .before .names-missing .ensures) (c .if4 .left))
 
 pub check-lists-spec : {M : Type 1} → statement M
 check-lists-spec =
     tie.close
     (tie.spec
-    wrong-length-requires
-    returns
-    rule-breaks-requires
-    returns-2
-    has-twins-requires
-    returns-3
+    check-rule-requires
+    enum-known-found
+    enum-told
     many-parameters-requires
-    returns-4
-    wrong-length-requires-2
-    returns-5
+    returns
+    wrong-length-requires
+    returns-2
     bad-signals-requires
-    returns-6
+    returns-3
     records-of-requires
     names-missing-requires
-    returns-7
-    returns-8)
+    returns-4
+    returns-5
+    returns-6)

@@ -1,0 +1,21 @@
+-- Where a search of a list first finds something: by record, then by a second number, its byte or an earlier record.
+use mathlib.Core.Bool.{Bool, true, false, cond}
+use Prim.Native.Nat.{ℕ}
+use Rattle.ground.specs.Fold.{fold}
+use Rattle.watcher.specs.declared.state.Place.{Place}
+use Rattle.watcher.specs.declared.state.Place.the-variants.{Nowhere, At}
+
+-- something was found
+unfoldable pub isFound : Place → Bool
+isFound Nowhere = false
+isFound (At i j) = true
+
+-- the first of two that was found
+unfoldable pub orElse : Place → Place → Place
+orElse Nowhere later = later
+orElse (At i j) later = At i j
+
+-- the first i below n, and with it the first j below i's bound, where the test holds
+unfoldable pub firstWhere : (n : ℕ) (bound : ℕ → ℕ) (test : ℕ → ℕ → Bool) → Place
+firstWhere n bound test =
+    fold orElse Nowhere n (λ i. fold orElse Nowhere (bound i) (λ j. cond (test i j) (At i j) Nowhere))
