@@ -9,6 +9,9 @@ use forms::rows::constant;
 use forms::rows::fits;
 use forms::rows::names;
 use forms::rows::parameter;
+use rewriting::kind::NEXT;
+use rewriting::kind::PREVIOUS;
+use rewriting::kind::SIGNAL;
 use rewriting::parts::signal;
 use rewriting::rule::count_of;
 use rewriting::rule::parameters_in;
@@ -120,14 +123,14 @@ fn row_wrong(here: Here, n: usize, m: usize, last: Moment, row: [u64; 64]) -> bo
     ensures { λ r. ⌜ RowWrong here n m last row r ⌝ }
 {
     let kind = here.record.kind;
-    if kind == 3 {
+    if kind == SIGNAL {
         let holds = signal(last.signals, here.record.left);
         return !same_words(row, constant(holds));
     }
-    if kind < 6 {
+    if kind < NEXT {
         return false;
     }
-    if kind < 8 {
+    if kind < PREVIOUS {
         return !same_words(row, parameter(here.first + n, m));
     }
     names_other(row, here.allowed)
@@ -152,8 +155,8 @@ fn widen(here: Here, m: usize) -> usize
     ensures { λ r. ⌜ r ≡ widened here ⌝ }
 {
     let kind = here.record.kind;
-    if 6 <= kind {
-        if kind < 8 {
+    if NEXT <= kind {
+        if kind < PREVIOUS {
             let own = (1 << here.count) - 1;
             here.allowed | (own << here.first)
         } else {
