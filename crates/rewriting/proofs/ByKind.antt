@@ -83,8 +83,8 @@ module _ (P : Node → Type 0) (d : Record) where
       → P (nodeFor d)
   kind-future a b h l =
       by-kind (λ q. absurd (omega (arith, q))) (λ q. absurd (omega (arith, q))) (λ q. absurd (omega (arith, q)))
-      (λ q. absurd (omega (arith, q))) (λ q. absurd (omega (arith, q))) (λ q. a) (λ q. b) (λ q. absurd (omega (arith, q)))
-      (λ o. absurd (omega (arith, o (omega arith))))
+      (λ q. absurd (omega (arith, q))) (λ q. absurd (omega (arith, q))) (λ q. a) (λ q. b)
+      (λ q. absurd (omega (arith, q))) (λ o. absurd (omega (arith, o (omega arith))))
 
   pub kind-past : P (previous (d .left) (over d)) → P (since (d .left) (d .right) (over d)) → 8 ≤ d .kind
       → P (nodeFor d)

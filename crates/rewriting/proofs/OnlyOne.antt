@@ -9,8 +9,8 @@ use Rattle.rewriting.specs.declared.step.Interval.{Interval}
 use Rattle.rewriting.specs.declared.step.Record.{Record}
 use Rattle.rewriting.specs.declared.step.Plan.{Plan}
 use Rattle.rewriting.specs.declared.step.Moment.{Moment}
-use Rattle.rewriting.specs.Clauses.{ByteOfClause, RecordAtClause, EndlessClause, CountOfClause, ParametersInClause}
-use Rattle.rewriting.specs.Clauses.{SignalClause, FormsOfClause, FirstClause, FeedClause}
+use Rattle.rewriting.specs.Clauses.{ByteOfClause, RecordAtClause, EndlessClause, CountOfClause}
+use Rattle.rewriting.specs.Clauses.{ParametersInClause, SignalClause, FormsOfClause, FirstClause, FeedClause}
 use Rattle.rewriting.specs.Clauses.{ValueIfLastClause, CloseClause, BeginClause}
 use Rattle.rewriting.specs.Clauses.{BitsAboveClause, NotZeroFromClause, WrongRowsClause}
 

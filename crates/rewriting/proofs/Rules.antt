@@ -29,7 +29,7 @@ module _ (list : List ℕ) (n : ℕ) where
   unfolding ruleIn nodeAt
   node-past k h = getD-tab-out n (nodeIn list) k (fixed true) h
 
--- record k of a list is its node, with its parameters and its kind
+-- record k of a list is its node, with its parameters, and has its bytes
 module _ (list : List ℕ) (k : ℕ) (r : Record) (is : r ≡ recordIn list k) where
   pub record-node : nodeFor r ≡ nodeIn list k
   unfolding nodeIn
@@ -41,6 +41,10 @@ module _ (list : List ℕ) (k : ℕ) (r : Record) (is : r ≡ recordIn list k) w
   pub record-kind : r .kind ≡ byteOf list k 0
   unfolding recordIn
   record-kind = ap (λ (d : Record). d .kind) is
+
+  pub record-left : r .left ≡ byteOf list k 1
+  unfolding recordIn
+  record-left = ap (λ (d : Record). d .left) is
 
 -- where the bytes are the same, the record is
 pub node-same : (list list′ : List ℕ) (k : ℕ) → ((i : ℕ) → i < recordBytes → byteOf list k i ≡ byteOf list′ k i)

@@ -25,7 +25,7 @@ byteOf list k i = byteIn recordBytes list k i
 unfoldable pub endless : (kind high : ℕ) → Bool
 endless kind high = eqb high 255
 
--- low to high, or low on with no upper end. Byte 3, the kind, is zero in the layout: with any other it would be read alike
+-- low to high, or low on with no upper end. In the layout byte 3, the kind, is zero; with any other it is read alike
 unfoldable pub intervalOf : (kind low high : ℕ) → Interval
 intervalOf kind low high = cond (endless kind high) (onward low) (between low high)
 

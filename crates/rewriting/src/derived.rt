@@ -1,6 +1,8 @@
 // The derived row of a record's shift.
 use crate::interval::inside;
 use crate::interval::moved;
+use crate::kind::NEXT;
+use crate::kind::UNTIL;
 use crate::parts::now_or;
 use crate::parts::only_row;
 use crate::parts::parameter_to;
@@ -59,10 +61,10 @@ pub(crate) fn derived_row(
     ensures { λ r. ⌜ OfMade Derived step (now (forms .entry)) k (now (area .entry)) scratch held r ⌝ }
 {
     let kind = step.record.kind;
-    if kind == 6 {
+    if kind == NEXT {
         return next_row(step, forms, k);
     }
-    if kind == 7 {
+    if kind == UNTIL {
         let left = row_of(forms, 0, k, step.record.left as usize);
         let right = row_of(forms, 0, k, step.record.right as usize);
         let later = until_later(step, left, area, scratch);

@@ -1,5 +1,7 @@
 // The end of a log: every derived row is a constant there, so the parameters have a setting.
 use crate::interval::inside_now;
+use crate::kind::SIGNAL;
+use crate::kind::UNTIL;
 use crate::parts::signal;
 use crate::rule::count_of;
 use crate::step::Moment;
@@ -31,13 +33,13 @@ fn end_value(step: Step, forms: &[u64], k: usize, area: &[u64], setting: usize) 
     ensures { λ r. ⌜ OfEnd step (now (forms .entry)) k (now (area .entry)) setting r ⌝ }
 {
     let kind = step.record.kind;
-    if kind == 3 {
+    if kind == SIGNAL {
         return signal(step.signals, step.record.left);
     }
-    if kind < 7 {
+    if kind < UNTIL {
         return false;
     }
-    if kind == 7 {
+    if kind == UNTIL {
         if inside_now(step.record.interval, step.shift, step.here) {
             return value(row_of(forms, 0, k, step.record.right as usize), setting);
         }

@@ -1,4 +1,8 @@
 // A record's form: constants, and, exclusive or are read as such, any other is its parameter of shift 0.
+use crate::kind::AND;
+use crate::kind::FALSE;
+use crate::kind::TRUE;
+use crate::kind::XOR;
 use crate::step::Record;
 use forms::area::row_of;
 use forms::join::and;
@@ -14,20 +18,20 @@ pub(crate) fn form_row(record: Record, first: usize, m: usize, forms: &[u64], k:
     ensures { λ r. ⌜ OfRecord «record» first m (now (forms .entry)) k r ⌝ }
 {
     let kind = record.kind;
-    if kind == 1 {
+    if kind == TRUE {
         return constant(true);
     }
-    if kind == 2 {
+    if kind == FALSE {
         return constant(false);
     }
-    if kind != 4 {
-        if kind != 5 {
+    if kind != AND {
+        if kind != XOR {
             return parameter(first, m);
         }
     }
     let left = row_of(forms, 0, k, record.left as usize);
     let right = row_of(forms, 0, k, record.right as usize);
-    if kind == 4 {
+    if kind == AND {
         return and(left, right);
     }
     xor(left, right)

@@ -2,6 +2,7 @@
 // the held derived rows of the log record before.
 use crate::interval::inside;
 use crate::interval::moved;
+use crate::kind::PREVIOUS;
 use crate::parts::now_or;
 use crate::parts::only_put;
 use crate::parts::row_to;
@@ -69,11 +70,11 @@ pub(crate) fn past_row(
     ensures { λ r. ⌜ OfMade Past step (now (forms .entry)) k (now (area .entry)) scratch held r ⌝ }
 {
     let kind = step.record.kind;
-    if kind < 8 {
+    if kind < PREVIOUS {
         return parameter(step.first + step.shift, step.m);
     }
     let left = row_of(forms, 0, k, step.record.left as usize);
-    if kind == 8 {
+    if kind == PREVIOUS {
         return previous_row(step, left, area, scratch, held);
     }
     let right = row_of(forms, 0, k, step.record.right as usize);

@@ -1,5 +1,7 @@
 // One row of a record's shift, derived or past. Past rows stand first in the area, derived rows in its scratch.
 use crate::derived::derived_row;
+use crate::kind::NEXT;
+use crate::kind::SIGNAL;
 use crate::parts::signal;
 use crate::past::past_row;
 use crate::step::Step;
@@ -37,10 +39,10 @@ pub(crate) fn step_row(
     ensures { λ r. ⌜ OfMade row step (now (forms .entry)) k (now (area .entry)) scratch held r ⌝ }
 {
     let kind = step.record.kind;
-    if kind == 3 {
+    if kind == SIGNAL {
         return constant(signal(step.signals, step.record.left));
     }
-    if kind < 6 {
+    if kind < NEXT {
         return constant(false);
     }
     match row {

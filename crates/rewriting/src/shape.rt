@@ -1,5 +1,8 @@
 // The rows that a state must have: the parts of check 12 that read the area. Past rows stand from place 0 on, the
 // remainder behind the places for them.
+use crate::kind::NEXT;
+use crate::kind::PREVIOUS;
+use crate::kind::SIGNAL;
 use crate::parts::signal;
 use crate::rule::count_of;
 use crate::rule::record_at;
@@ -112,14 +115,14 @@ fn row_wrong(here: Here, n: usize, m: usize, last: Moment, row: [u64; 64]) -> bo
     ensures { λ r. ⌜ RowWrong here n m last row r ⌝ }
 {
     let kind = here.record.kind;
-    if kind == 3 {
+    if kind == SIGNAL {
         let holds = signal(last.signals, here.record.left);
         return !same_words(row, constant(holds));
     }
-    if kind < 6 {
+    if kind < NEXT {
         return false;
     }
-    if kind < 8 {
+    if kind < PREVIOUS {
         return !same_words(row, parameter(here.first + n, m));
     }
     names_other(row, here.allowed)
@@ -144,8 +147,8 @@ fn widen(here: Here, m: usize) -> usize
     ensures { λ r. ⌜ r ≡ widened here ⌝ }
 {
     let kind = here.record.kind;
-    if 6 <= kind {
-        if kind < 8 {
+    if NEXT <= kind {
+        if kind < PREVIOUS {
             let own = (1 << here.count) - 1;
             here.allowed | (own << here.first)
         } else {

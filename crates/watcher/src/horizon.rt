@@ -2,6 +2,12 @@
 use crate::state::Wait;
 use crate::state::Watcher;
 use rewriting::interval::endless;
+use rewriting::kind::FALSE;
+use rewriting::kind::NEXT;
+use rewriting::kind::PREVIOUS;
+use rewriting::kind::SIGNAL;
+use rewriting::kind::TRUE;
+use rewriting::kind::UNTIL;
 use rewriting::rule::record_at;
 use rewriting::step::Interval;
 use rewriting::step::Record;
@@ -73,10 +79,10 @@ fn record_entry(record: Record, codes: &[usize], k: usize) -> usize
     let sides = sides_of(record, codes, k);
     let kind = record.kind;
     match kind {
-        1 | 2 | 3 => 1,
-        6 => later(record.interval, sides.left),
-        7 => later(record.interval, sides.both),
-        8 => sides.left,
+        TRUE | FALSE | SIGNAL => 1,
+        NEXT => later(record.interval, sides.left),
+        UNTIL => later(record.interval, sides.both),
+        PREVIOUS => sides.left,
         _ => sides.both,
     }
 }

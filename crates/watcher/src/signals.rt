@@ -2,6 +2,8 @@
 use crate::state::Watcher;
 use ground::bytes::byte;
 use ground::bytes::four;
+use rewriting::kind::SIGNAL;
+use rewriting::rule::record_at;
 ghost use mathlib.Core.Path.{_≡_};
 ghost use mathlib.Core.Bool.{_&&_};
 ghost use Prim.Native.Nat.{_<_};
@@ -45,14 +47,13 @@ pub(crate) fn bad_signals(list: &[u8]) -> bool
 
 // Whether record k of the rule names a signal that a list of so many does not define.
 fn names_missing_at(rule: &[u8], signals: usize, k: usize) -> bool
-    requires { ⌜ k < recordsOf (now rule) ⌝ }
     ensures { λ r. ⌜ r ≡ (eqb (byteOf (now (rule .entry)) k 0) 3 && leb signals (byteOf (now (rule .entry)) k 1)) ⌝ }
 {
-    let at = Watcher::RECORD_BYTES * k;
-    if byte(rule, at) != 3 {
+    let record = record_at(rule, k);
+    if record.kind != SIGNAL {
         return false;
     }
-    signals <= byte(rule, at + 1) as usize
+    signals <= record.left as usize
 }
 
 // Whether some record of the rule does.

@@ -19,8 +19,8 @@ returns c =
     let list = q .args .list .now in
     let is = c .before .record-at .ensures in
     let t =
-    tells list (q .args .plan) _ _ (q .pre .1) (record-node _ _ _ is) (record-count _ _ _ is _ (c .count-of .ensures .0))
-    (q .pre .2) in
+    tells list (q .args .plan) _ _ (q .pre .1) (record-node _ _ _ is)
+    (record-count _ _ _ is _ (c .count-of .ensures .0)) (q .pre .2) in
     (t, placed list (q .args .plan) (q .pre .0) _ _ (q .pre .1) t (record-kind _ _ _ is))
 
 pub here-at-spec : {M : Type 1} → statement M

@@ -25,8 +25,7 @@ loop-holds : tie.Need-loop-holds Inv-loop μ-loop
 loop-holds c = (omega arith, λ i h. let z : ⊥ = omega arith in absurd z)
 
 names-missing-at-requires : tie.Need-names-missing-at-requires Inv-loop μ-loop
-unfolding recordsOf
-names-missing-at-requires c κs = omega arith
+names-missing-at-requires c κs = search needs
 
 returns : tie.Need-returns Inv-loop μ-loop
 unfolding namesMissing recordsOf
