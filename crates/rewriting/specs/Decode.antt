@@ -51,7 +51,7 @@ recordIn list k =
       interval = record { kind = byteOf list k 3; low = byteOf list k 4; high = byteOf list k 5 };
     }
 
--- an interval that the code keeps, and a record
+-- the interval that such a record has, and the record of a rule that it is
 unfoldable pub intervalFor : IntervalBytes → Interval
 intervalFor v = intervalOf (v .kind) (v .low) (v .high)
 

@@ -13,7 +13,10 @@ use Rattle.ground.specs.Fold.{fold, some}
 use Rattle.ground.proofs.Folds.{every-at}
 use Rattle.rewriting.specs.Decode.{recordBytes}
 use Rattle.watcher.specs.Limits.{mostRecords, mostSignals, listBytes}
-use Rattle.rewriting.specs.Decode.{byteOf}
+use Rattle.rewriting.specs.declared.step.Interval.{Interval}
+use Rattle.rewriting.specs.declared.step.Record.{Record}
+use Rattle.rewriting.specs.Decode.{byteOf, recordIn}
+use Rattle.rewriting.specs.Clauses.{EndlessClause}
 use Rattle.watcher.specs.Rules.{recordsOf, wrongLengthIn, usedBytes, uses, fairLimits, usedRight}
 use Rattle.watcher.specs.Rules.{byteBreaks, firstBroken, ruleBreaks, sameRecord, firstTwins, hasTwins}
 use Rattle.watcher.proofs.Places.{where-some}
@@ -46,13 +49,17 @@ module _ (size most : ℕ) (list : List ℕ) where
   length-odd n = rw (ne-eqb (length list % size) 0 n)
 
 -- limits
-pub fair-onward : (low high : ℕ) → high ≡ 255 → leb low 254 ≡ fairLimits low high
-unfolding fairLimits
-fair-onward low high e = rw (eq-eqb high 255 e)
+abbrev fairly : Interval → Bool
+fairly v = fairLimits (v .kind) (v .low) (v .high)
 
-pub fair-between : (low high : ℕ) → (high ≡ 255 → ⊥) → leb low high ≡ fairLimits low high
-unfolding fairLimits
-fair-between low high n = rw (ne-eqb high 255 n)
+module _ (v : Interval) (b : Bool) (tells : EndlessClause v b) where
+  pub fair-endless : b ≡ true → leb (v .low) 254 ≡ fairly v
+  unfolding fairLimits
+  fair-endless e = rw (← tells, e)
+
+  pub fair-between : b ≡ false → leb (v .low) (v .high) ≡ fairly v
+  unfolding fairLimits
+  fair-between e = rw (← tells, e)
 
 -- a used byte
 module _ (list : List ℕ) (k i kind : ℕ) (is : kind ≡ byteOf list k 0) where
@@ -74,10 +81,10 @@ module _ (list : List ℕ) (k i kind : ℕ) (is : kind ≡ byteOf list k 0) wher
   unfolding usedRight
   right-record named n h b e = rw (ne-eqb i 0 n, le-leb i 2 h, ← is, ne-eqb kind 3 e, b)
 
-  pub right-limits : (low high : ℕ) (r : Bool) → (i ≡ 0 → ⊥) → 2 < i → low ≡ byteOf list k 4 → high ≡ byteOf list k 5
-      → r ≡ fairLimits low high → r ≡ usedRight list k i
-  unfolding usedRight
-  right-limits low high r n h a b e = rw (ne-eqb i 0 n, lt-leb i 2 h, ← a, ← b, e)
+  pub right-limits : (d : Record) (r : Bool) → (i ≡ 0 → ⊥) → 2 < i → d ≡ recordIn list k → r ≡ fairly (d .interval)
+      → r ≡ usedRight list k i
+  unfolding usedRight recordIn
+  right-limits d r n h q e = rw (ne-eqb i 0 n, lt-leb i 2 h) (e ∙ ap (λ (x : Record). fairly (x .interval)) q)
 
 -- a byte of a record
 module _ (list : List ℕ) (k i : ℕ) where

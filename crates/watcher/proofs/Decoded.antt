@@ -90,7 +90,7 @@ pub record Laid (list : List ℕ) (k : ℕ) : Type 0 where
   pub signal : byteOf list k 0 ≡ 3 → byteOf list k 1 < 16
   pub left : (byteOf list k 0 ≡ 3 → ⊥) → uses (byteOf list k 0) 1 ≡ true → byteOf list k 1 < k
   pub right : uses (byteOf list k 0) 2 ≡ true → byteOf list k 2 < k
-  pub limits : uses (byteOf list k 0) 4 ≡ true → fairLimits (byteOf list k 4) (byteOf list k 5) ≡ true
+  pub limits : uses (byteOf list k 0) 4 ≡ true → fairLimits (byteOf list k 3) (byteOf list k 4) (byteOf list k 5) ≡ true
 
 -- a used byte of a record that keeps the layout is what the kind wants there
 byte-fine : (list : List ℕ) (k i : ℕ) → Keeps list k → i < 8

@@ -9,8 +9,14 @@ ghost use Rattle.watcher.specs.Rules.{firstBroken, sameRecord, firstTwin
 use crate::state::Place;
 use crate::state::Watcher;
 use ground::bytes::byte;
+use rewriting::interval::endless;
+use rewriting::kind::SIGNAL;
+use rewriting::kind::SINCE;
+use rewriting::kind::TRUE;
 use rewriting::rule::byte_of;
 use rewriting::rule::parameters_in;
+use rewriting::rule::record_at;
+use rewriting::step::Interval;
 
 // Kinds 0, which is none, to 9.
 const KINDS: usize = 10;
@@ -67,11 +73,15 @@ pub(crate) fn wrong_length(list: &[u8], size: usize, most: usize) -> bool
     }
 }
 
-// Whether `low` is at most `high`, or at most 254 where `high` is 255, no upper end.
-pub(crate) fn fair_limits(low: u8, high: u8) -> bool
-    ensures { λ r. ⌜ r ≡ fairLimits low high ⌝ }
+// Whether `low` is at most `high`, or at most 254 where there is no upper end.
+pub(crate) fn fair_limits(interval: Interval) -> bool
+    ensures { λ r. ⌜ r ≡ fairLimits (interval .kind) (interval .low) (interval .high) ⌝ }
 {
-    if high == 255 { low <= 254 } else { low <= high }
+    if endless(interval) {
+        interval.low <= 254
+    } else {
+        interval.low <= interval.high
+    }
 }
 
 // Whether byte `i` of record `k` is what its kind wants there.
@@ -79,18 +89,19 @@ pub(crate) fn used_right(list: &[u8], k: usize, i: usize) -> bool
     requires { ⌜ (k < mostRecords) × (i < recordBytes) ⌝ }
     ensures { λ r. ⌜ r ≡ usedRight (now (list .entry)) k i ⌝ }
 {
-    let kind = byte_of(list, k, 0);
+    let record = record_at(list, k);
+    let kind = record.kind;
     if i == 0 {
-        if 1 <= kind { kind <= 9 } else { false }
+        if TRUE <= kind { kind <= SINCE } else { false }
     } else if i <= 2 {
         let named = byte_of(list, k, i) as usize;
-        if kind == 3 {
+        if kind == SIGNAL {
             named < Watcher::SIGNALS
         } else {
             named < k
         }
     } else {
-        fair_limits(byte_of(list, k, 4), byte_of(list, k, 5))
+        fair_limits(record.interval)
     }
 }
 
