@@ -38,7 +38,8 @@ module _ (f : Exports) where
 -- code is that of its answer; so what is demanded of the watcher holds of the exports
 pub record Carried (f : Exports) (rule signals bytes ws : List ℕ) (calls : List Call) : Type 0 where
   pub started : f .start rule signals bytes ws .0 ≡ foundCode (startOf rule signals ws .0 .found)
-  pub bytes-are : lentAfter f rule signals bytes ws calls .bytes ≡ written (reached defined rule signals ws calls .state)
+  pub bytes-are :
+      lentAfter f rule signals bytes ws calls .bytes ≡ written (reached defined rule signals ws calls .state)
   pub state-is : stateIn (lentAfter f rule signals bytes ws calls .bytes) ≡ reached defined rule signals ws calls .state
   pub area-is : lentAfter f rule signals bytes ws calls .area ≡ reached defined rule signals ws calls .area
   pub refused : (piece : List ℕ) → MachineBytes piece

@@ -200,7 +200,8 @@ module _ (rule signals : List ℕ) (fine : Accepted rule signals) where
           → handed defined (heldAfter rule signals log) (feeding bytes)
           ≡ heldAfter rule signals (cond (accepts log bytes) (logWith signals log bytes) log)
       go (taken a w h) = fed-turn log r bytes w h .1 ∙ same true a
-      go (wrong a w) = wrong-stays (heldAfter rule signals log) (lastTime log) (ready-after log r) bytes w .1 ∙ same false a
+      go (wrong a w) =
+          wrong-stays (heldAfter rule signals log) (lastTime log) (ready-after log r) bytes w .1 ∙ same false a
       go (early a w h) =
           early-stays (heldAfter rule signals log) (lastTime log) (ready-after log r) bytes w h .1 ∙ same false a
 

@@ -197,8 +197,8 @@ module _ (f : Three) (right : Meets f) where
         → MachineBytes bytes → (w : Word) → Says (told f (reached f rule signals ws calls) bytes) w
         → Told rule signals (courseOf signals calls) bytes w
     told-here begun calls machine bytes p w s =
-        word-told rule signals (accepted begun) (courseOf signals calls) (course-right rule signals (accepted begun) calls)
-        bytes w (subst (λ x. Says x w) (told-is f right rule signals ws begun calls machine bytes p) s)
+        word-told rule signals (accepted begun) (courseOf signals calls)
+        (course-right rule signals (accepted begun) calls) bytes w (subst (λ x. Says x w) (told-is f right rule signals ws begun calls machine bytes p) s)
 
     -- calls with a record and more behind them
     machine-more : (calls : List Call) (bytes : List ℕ) (more : List Call) → MachineCalls calls → MachineBytes bytes
@@ -230,7 +230,8 @@ module _ (f : Three) (right : Meets f) where
 
     horizon-decides : HorizonDecides f rule signals ws
     horizon-decides begun h limit calls machine bytes p w s past =
-        told-settled rule signals (accepted begun) calls bytes w (told-here begun calls machine bytes p w s) h limit past
+        told-settled rule signals (accepted begun) calls bytes w (told-here begun calls machine bytes p w s) h limit
+        past
 
     finite-is-decided : FiniteIsDecided f rule signals ws
     finite-is-decided begun finite =

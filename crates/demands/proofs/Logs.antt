@@ -136,7 +136,8 @@ unfolding logWith entryOf
 right-more signals log bytes r h =
     let e : Entry = entryOf signals (recordsOf signals) bytes in
     record {
-      below = below-more (recordsOf signals) log (e ∷ []) (r .below) (entry-below signals (recordsOf signals) bytes, tt);
+      below =
+          below-more (recordsOf signals) log (e ∷ []) (r .below) (entry-below signals (recordsOf signals) bytes, tt);
       climbs = climbs-more 0 log (e ∷ []) (r .climbs) (subst (λ t. t ≤ timeOf bytes) (sym (last-is log)) h, tt);
     }
 

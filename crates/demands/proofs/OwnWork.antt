@@ -71,7 +71,8 @@ module _ (f : Three) (right : Meets f) where
             told-by bytes p (going log) c 8
             (λ l.
             subst (λ x. Carries (foundIn x) 8)
-            (sym (wrong-stays (heldAfter rule signals log) (lastTime log) (ready-after rule signals fine log l) bytes w .0))
+            (sym
+            (wrong-stays (heldAfter rule signals log) (lastTime log) (ready-after rule signals fine log l) bytes w .0))
             refl);
         early =
             λ log c bytes p w t.
@@ -79,7 +80,8 @@ module _ (f : Three) (right : Meets f) where
             (λ l.
             subst (λ x. Carries (foundIn x) 9)
             (sym
-            (early-stays (heldAfter rule signals log) (lastTime log) (ready-after rule signals fine log l) bytes w t .0))
+            (early-stays (heldAfter rule signals log) (lastTime log) (ready-after rule signals fine log l) bytes w t
+            .0))
             refl);
         closed =
             λ e es c bytes p.

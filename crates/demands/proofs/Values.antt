@@ -37,7 +37,8 @@ module _ (rule signals : List ℕ) (fine : Accepted rule signals) where
         ≡ constant (parametersIn rule) (valueOf (e ∷ es) (readRule rule))
     unfolding parametersIn
     close-constant rising =
-        close-value (readRule rule) rule-ordered (parametersIn rule) (firstOf-fits (readRule rule)) rule-some e es rising
+        close-value (readRule rule) rule-ordered (parametersIn rule) (firstOf-fits (readRule rule)) rule-some e es
+        rising
 
     pub value-closing : Rising (e ∷ es)
         → valueIfLast (parametersIn rule) (readRule rule) (after (parametersIn rule) (readRule rule) e es)

@@ -9,7 +9,8 @@ use Rattle.watcher.specs.declared.state.Verdict.the-variants as verdict
 use Rattle.watcher.specs.declared.state.End.the-variants.{Closed}
 use Rattle.watcher.specs.Machine.{MachineBytes, MachineWords}
 use Rattle.watcher.specs.Numbers.{Says, foundIn, foundAt}
-use Rattle.demands.specs.Watching.{Three, Call, feeding, closing, told, ending, handed, reached, MachineCalls, Begun}
+use Rattle.demands.specs.Watching.{Three, Call, feeding, closing, told, ending, handed, reached}
+use Rattle.demands.specs.Watching.{MachineCalls, Begun}
 use Rattle.demands.specs.Logs.{going, courseOf}
 use Rattle.demands.specs.Tables.{Carries}
 

@@ -1,5 +1,6 @@
 -- The owner's three demands (document 00), of three functions with the types of start, feed and close, on everything
--- that a machine can hand in. `crates/watcher` has the functions, and each demand is proved of any that meet its clauses.
+-- that a machine can hand in. `crates/watcher` has the functions, and each demand is proved of any that meet its
+-- clauses.
 use mathlib.Core.Path.{_≡_}
 use mathlib.Core.Bool.{Bool, true, not, cond}
 use mathlib.Core.List.{List, [], _∷_, _++_}

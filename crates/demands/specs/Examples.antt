@@ -1,5 +1,5 @@
--- Document 01's starred examples, one to twelve, and a few more on channels, senses and horizons, as one table over bytes;
--- when a row of it passes by the definitions alone, and what start, feed and close then answer.
+-- Document 01's starred examples, one to twelve, and a few more on channels, senses and horizons, as one table over
+-- bytes; when a row of it passes by the definitions alone, and what start, feed and close then answer.
 use mathlib.Core.Path.{_≡_}
 use mathlib.Core.Bool.{Bool, true, false, not, _&&_}
 use mathlib.Core.List.{List, [], _∷_, _++_, map}

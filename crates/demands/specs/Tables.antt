@@ -69,8 +69,8 @@ unfoldable pub Carries : Found → ℕ → Type 0
 Carries Fine n = ⊥
 Carries (Refused r) n = refusalNumber r ≡ n
 
--- an answer is as the table says: it is given in every case, a refusal with a number exactly when this test is the first
--- that holds, and none exactly when no test holds
+-- an answer is as the table says: it is given in every case, a refusal with a number exactly when this test is the
+-- first that holds, and none exactly when no test holds
 pub record AsTable (table : List Line) (found : Found) : Type 0 where
   pub answered : (found ≡ Fine) ⊎ ((n : ℕ) × Carries found n)
   pub refused : (n : ℕ) → Carries found n ↔ Given table n
