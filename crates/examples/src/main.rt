@@ -1,5 +1,5 @@
-// Runs the watcher on document 01's examples and its listing, on areas and states that it must refuse, and on cases by
-// chance beside a second evaluator, and counts the answers.
+// Runs the watcher on document 01's examples and its listing, and on cases by chance beside a second evaluator, and
+// counts the answers.
 mod answers;
 mod bytes;
 mod cases;
@@ -9,13 +9,11 @@ mod judge;
 mod listed;
 mod listing;
 mod made;
-mod refused;
 mod tally;
 
 use crate::cases::compare::random_cases;
 use crate::listed::examples;
 use crate::listing::listing;
-use crate::refused::refusals;
 use crate::tally::PLACES;
 use crate::tally::tally_lines;
 use watcher::state::Watcher;
@@ -25,7 +23,6 @@ fn main() {
     let mut tally = [0u64; PLACES];
     examples(&mut area);
     listing(&mut area);
-    refusals(&mut area, &mut tally);
     random_cases(5000, &mut area, &mut tally);
     tally_lines(&tally);
 }

@@ -19,22 +19,12 @@ const HORIZON: usize = 4;
 
 const NO_HORIZON: usize = 5;
 
-// Counts so many more at a place.
-fn count_more(tally: &mut [u64], place: usize, more: u64) {
-    if place < tally.len() {
-        let new = std::num::wrapping_add_u64(tally[place], more);
-        tally[place] = new;
-    }
-}
-
 // Counts one more at a place.
 fn count(tally: &mut [u64], place: usize) {
-    count_more(tally, place, 1);
-}
-
-// Counts so many more of a letter.
-pub(crate) fn add(tally: &mut [u64], letter: u8, more: u64) {
-    count_more(tally, letter as usize, more);
+    if place < tally.len() {
+        let new = std::num::wrapping_add_u64(tally[place], 1);
+        tally[place] = new;
+    }
 }
 
 // Counts a difference.
@@ -116,16 +106,19 @@ fn word_lines(tally: &[u64]) {
     line(b"without a horizon", tally, NO_HORIZON);
 }
 
-// Writes the line of a refusal by its number.
+// Writes the line of a refusal by its number; lists and logs bring up no 7 and 10.
 fn refusal_line(tally: &[u64], refusal: usize) {
+    if refusal == 7 || refusal == 10 {
+        return;
+    }
     text(b"refused ");
     number(refusal as u64);
     line(b"", tally, number_letter(refusal) as usize);
 }
 
-// Writes the lines of the refusals 1 to 12.
+// Writes the lines of the refusals.
 fn refusal_lines(tally: &[u64]) {
-    for refusal in 1..13usize {
+    for refusal in 1..12usize {
         refusal_line(tally, refusal);
     }
 }

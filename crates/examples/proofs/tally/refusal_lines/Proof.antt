@@ -6,10 +6,10 @@ use Rattle.examples.proofs.tally.refusal_lines.Statement.{statement}
 use Rattle.examples.proofs.tally.refusal_lines.Tie as tie
 
 abbrev Inv-loop : tie.InvT-loop
-Inv-loop tally refusal₀ refusal = refusal ≤ 13
+Inv-loop tally refusal₀ refusal = refusal ≤ 12
 
 abbrev μ-loop : tie.MeasureT-loop
-μ-loop tally refusal₀ refusal = 13 - refusal
+μ-loop tally refusal₀ refusal = 12 - refusal
 
 loop-holds : tie.Need-loop-holds Inv-loop μ-loop
 loop-holds c = search needs

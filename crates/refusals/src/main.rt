@@ -1,18 +1,83 @@
-// Refusals 7, 10 and 12, which no lists and no log bring up: an area of another length, a closed watcher, and states
-// that are damaged, one for each part of document 01's account of 12. Each answer is held to the number given here.
-use crate::answers::print::number;
-use crate::answers::print::text;
-use crate::given::put_steps;
-use crate::given::rule_a;
-use crate::given::rule_b;
-use crate::given::vent_signals;
-use crate::tally::add;
+// Runs into refusals 7, 12 and 10, which no lists and no log bring up: areas of another length, states that are
+// damaged, one for each part of document 01's account of 12, and a closed watcher. Each answer is held to the number
+// given here, and those that are right are counted.
+use libc::STDOUT_FILENO;
 use watcher::state::Answer;
 use watcher::state::End;
 use watcher::state::Found;
 use watcher::state::Phase;
 use watcher::state::Watcher;
 ghost use Prim.Native.Nat.{_≤_};
+
+// Rule A: signal 0 until signal 1, from 0 to 2. It has five parameters: two signals, and the until's three shifts.
+const RULE_A: [u8; 24] = [
+    3,
+    0,
+    0,
+    0,
+    0,
+    0,
+    0,
+    0,
+    3,
+    1,
+    0,
+    0,
+    0,
+    0,
+    0,
+    0,
+    7,
+    0,
+    1,
+    0,
+    0,
+    2,
+    0,
+    0,
+];
+
+// Rule B: signal 0 since signal 1, from 1 to 1; next of it, with no upper end.
+const RULE_B: [u8; 32] = [
+    3,
+    0,
+    0,
+    0,
+    0,
+    0,
+    0,
+    0,
+    3,
+    1,
+    0,
+    0,
+    0,
+    0,
+    0,
+    0,
+    9,
+    0,
+    1,
+    0,
+    1,
+    1,
+    0,
+    0,
+    6,
+    2,
+    0,
+    0,
+    0,
+    255,
+    0,
+    0,
+];
+
+// Signals 0 and 1: lee vent at least 1, windward vent at least 1.
+const SIGNALS: [u8; 16] = [3, 0, 1, 0, 0, 0, 0, 0, 4, 0, 1, 0, 0, 0, 0, 0];
+
+// A record at time 0 in which signal 0 holds, and signal 1 does not.
+const RECORD: [u8; Watcher::LOG_BYTES] = [0, 0, 0, 0, 0, 0, 0, 0, 1, 0, 0, 0, 0, 0, 0, 0];
 
 // The number of a start's refusal; 0 if there is none.
 fn found_number(found: Found) -> usize {
@@ -38,6 +103,16 @@ fn end_number(end: End) -> usize {
     }
 }
 
+// Writes text as it stands.
+fn text(bytes: &[u8]) {
+    io::write_all(STDOUT_FILENO, bytes);
+}
+
+// Writes a number.
+fn number(n: u64) {
+    io::print_decimal(STDOUT_FILENO, n);
+}
+
 // One where the number is the wanted one; else a line is written.
 fn one_if(said: usize, wanted: usize) -> u64
     ensures { λ r. ⌜ r ≤ 1 ⌝ }
@@ -55,34 +130,29 @@ fn one_if(said: usize, wanted: usize) -> u64
 
 // A watcher that starts on the two vents.
 fn fresh(rule: &[u8], area: &mut [u64]) -> Watcher {
-    let signals = vent_signals();
-    let started = Watcher::start(rule, &signals, area);
+    let started = Watcher::start(rule, &SIGNALS, area);
     let next = started.next;
     next
 }
 
-// A watcher that was fed one record: at time 0 signal 0 holds, and signal 1 does not.
+// A watcher that was fed the record.
 fn running(rule: &[u8], area: &mut [u64]) -> Watcher {
-    let mut log = [0u8; 16];
-    put_steps(&mut log, b"0;1,0");
     let watcher = fresh(rule, area);
-    let fed = watcher.feed(&log, area);
+    let fed = watcher.feed(&RECORD, area);
     let next = fed.next;
     next
 }
 
-// A watcher of rule A that was fed that record. It has five parameters: two signals, and an until's three shifts.
+// A watcher of rule A that was fed it.
 fn running_a(area: &mut [u64]) -> Watcher {
-    let rule = rule_a(0, 2);
-    running(&rule, area)
+    running(&RULE_A, area)
 }
 
 // How many refuse by the number: feeding a record, and closing.
 fn refused_by(wanted: usize, watcher: Watcher, area: &mut [u64]) -> u64
     ensures { λ r. ⌜ r ≤ 2 ⌝ }
 {
-    let log = [0u8; 16];
-    let fed = watcher.feed(&log, area);
+    let fed = watcher.feed(&RECORD, area);
     let answer = fed.answer;
     let ended = watcher.close(area);
     let end = ended.answer;
@@ -93,17 +163,15 @@ fn refused_by(wanted: usize, watcher: Watcher, area: &mut [u64]) -> u64
 fn area_refused(watcher: Watcher, other: &mut [u64]) -> u64
     ensures { λ r. ⌜ r ≤ 3 ⌝ }
 {
-    let rule = rule_a(0, 2);
-    let signals = vent_signals();
-    let started = Watcher::start(&rule, &signals, other);
+    let started = Watcher::start(&RULE_A, &SIGNALS, other);
     let found = started.found;
     one_if(found_number(found), 7) + refused_by(7, watcher, other)
 }
 
 // An area with a word too few, and one with a word too many.
 fn area_refusals(watcher: Watcher) -> u64 {
-    let mut short = [0u64; 1663];
-    let mut long = [0u64; 1665];
+    let mut short = [0u64; Watcher::WORDS - 1];
+    let mut long = [0u64; Watcher::WORDS + 1];
     area_refused(watcher, &mut short) + area_refused(watcher, &mut long)
 }
 
@@ -151,8 +219,7 @@ fn wide_rows(area: &mut [u64]) -> u64
 fn early_row(area: &mut [u64]) -> u64
     ensures { λ r. ⌜ r ≤ 2 ⌝ }
 {
-    let rule = rule_a(0, 2);
-    let watcher = fresh(&rule, area);
+    let watcher = fresh(&RULE_A, area);
     word_refused(watcher, 0, 1, area)
 }
 
@@ -160,8 +227,7 @@ fn early_row(area: &mut [u64]) -> u64
 fn naming_row(area: &mut [u64]) -> u64
     ensures { λ r. ⌜ r ≤ 2 ⌝ }
 {
-    let rule = rule_b();
-    let watcher = running(&rule, area);
+    let watcher = running(&RULE_B, area);
     word_refused(watcher, 128, 2, area)
 }
 
@@ -240,11 +306,20 @@ fn state_refusals(watcher: Watcher, area: &mut [u64]) -> u64 {
     states + wide + other
 }
 
-// Counts refusals 7, 10 and 12 of a watcher that was fed a record.
-pub(crate) fn refusals(area: &mut [u64], tally: &mut [u64]) {
-    let watcher = running_a(area);
-    add(tally, b'7', area_refusals(watcher));
-    add(tally, b'c', state_refusals(watcher, area));
-    let again = running_a(area);
-    add(tally, b'a', closed_refusals(again, area));
+// Writes the line of a refusal: how many answers had its number.
+fn line(refusal: u64, right: u64) {
+    text(b"refused ");
+    number(refusal);
+    text(b" ");
+    number(right);
+    text(b"\n");
+}
+
+fn main() {
+    let mut area = [0u64; Watcher::WORDS];
+    let watcher = running_a(&mut area);
+    line(7, area_refusals(watcher));
+    line(12, state_refusals(watcher, &mut area));
+    let again = running_a(&mut area);
+    line(10, closed_refusals(again, &mut area));
 }
