@@ -154,23 +154,25 @@ pub(crate) fn same_record(list: &[u8], size: usize, i: usize, j: usize) -> bool
     true
 }
 
-// Where the first twins are: the lowest record that has an earlier twin, and its earliest twin.
+// Where the first twins are: the lowest record that has an earlier twin, and the earliest; they end the search.
 pub(crate) fn first_twins(list: &[u8], size: usize) -> Place
     requires { ⌜ 0 < size ⌝ }
     ensures { λ r. ⌜ r ≡ firstTwins size (now (list .entry)) ⌝ }
 {
     let records = list.len() / size;
-    for i in 0..records {
+    let mut found = Place::Nowhere;
+    'pairs: for i in 0..records {
         for j in 0..i {
             if same_record(list, size, i, j) {
-                return Place::At {
+                found = Place::At {
                     record: i,
                     second: j,
                 };
+                break 'pairs;
             }
         }
     }
-    Place::Nowhere
+    found
 }
 
 // Whether the rule has more parameters than it may.
