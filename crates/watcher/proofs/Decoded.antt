@@ -213,7 +213,7 @@ module _ (rule signals : List ℕ) (fine : Accepted rule signals) where
   -- the signal list has 1 to 16 records
   pub accepted-list : Whole signals
   unfolding wrongSignals
-  accepted-list = length-fine signals (neither (wrongLength signals) _ (fine .listed) .0)
+  accepted-list = length-fine signals (neither _ _ (fine .listed) .0)
 
   pub accepted-signals : (k s : ℕ) → nodeAt (ruleIn rule (recordsOf rule)) k ≡ signal s
       → (s < recordsOf signals) × (s < 16)

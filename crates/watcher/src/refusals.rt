@@ -49,7 +49,7 @@ pub fn check_lists(rule: &[u8], signals: &[u8]) -> Found
             if many_parameters(rule) {
                 return Found::Refused(Refusal::RuleParameters);
             }
-            if wrong_length(signals, Watcher::RECORD_BYTES, Watcher::RECORDS) {
+            if wrong_length(signals, Watcher::RECORD_BYTES, Watcher::SIGNALS) {
                 return Found::Refused(Refusal::SignalList);
             }
             if bad_signals(signals) {
