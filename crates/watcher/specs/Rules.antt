@@ -6,7 +6,7 @@ use lib.Dec.{eqb, leb, ltb}
 use lib.ListN.{length, getD}
 use Rattle.ground.specs.Fold.{every}
 use Rattle.meaning.specs.Rule.{parameters}
-use Rattle.rewriting.specs.Decode.{recordBytes, byteIn, byteOf, endless, ruleIn}
+use Rattle.rewriting.specs.Decode.{recordBytes, kindTrue, kindSignal, kindSince, byteIn, byteOf, endless, ruleIn}
 use Rattle.watcher.specs.declared.state.Place.{Place}
 use Rattle.watcher.specs.Limits.{mostRecords, mostSignals, mostParameters}
 use Rattle.watcher.specs.Places.{isFound, firstWhere}
@@ -51,8 +51,8 @@ fairLimits kind low high = cond (endless kind high) (leb low 254) (leb low high)
 -- byte i of record k is what the kind wants there: a kind 1 to 9, a signal number, an earlier record, fair limits
 unfoldable pub usedRight : List ℕ → ℕ → ℕ → Bool
 usedRight list k i =
-    cond (eqb i 0) (leb 1 (byteOf list k 0) && leb (byteOf list k 0) 9)
-    (cond (leb i 2) (ltb (byteOf list k i) (cond (eqb (byteOf list k 0) 3) mostSignals k))
+    cond (eqb i 0) (leb kindTrue (byteOf list k 0) && leb (byteOf list k 0) kindSince)
+    (cond (leb i 2) (ltb (byteOf list k i) (cond (eqb (byteOf list k 0) kindSignal) mostSignals k))
     (fairLimits (byteOf list k 3) (byteOf list k 4) (byteOf list k 5)))
 
 -- byte i of record k breaks the layout: byte 0 is no kind, a used byte is wrong, or an unused one is not zero
