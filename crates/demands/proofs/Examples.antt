@@ -18,7 +18,7 @@ use Rattle.meaning.specs.Words.{start, first, feed, close, wordFor, word, wordO
 use Rattle.rewriting.specs.Decode.{byteOf, endless, intervalOf, intervalFor, nodeOf, recordIn, nodeFor, nodeIn, ruleIn}
 use Rattle.watcher.specs.Numbers.{refusalNumber}
 use Rattle.watcher.specs.Places.{isFound, orElse, firstWhere}
-use Rattle.watcher.specs.Rules.{recordsOf, wrongLengthIn, usedBytes, uses, fairLimits, usedRight}
+use Rattle.watcher.specs.Rules.{recordsOf, wrongLengthIn, usedBytes, uses, fairLimits, namesRight, usedRight}
 use Rattle.watcher.specs.Rules.{byteBreaks, firstBroken, sameRecord, firstTwins, manyParameters}
 use Rattle.watcher.specs.Signals.{signalBreaks, wrongSignals, namesMissing, limitOf}
 use Rattle.watcher.specs.Records.{wrongRecord, timeOf, temperatureOf, windOf, windMeets, meets, signalHolds, signalWord}
@@ -48,7 +48,7 @@ unfolding table passes fold someIn everyIn tab bit ofBits little constant parame
     whichConstant distance inside shifts shifted moved nodeAt count firstOf parameters entryAt timeAt holds nextAt
     untilAt sinceAt meaning values valueOf larger later horizonOf horizons horizon put onlyIf formOf formsOf
     parameterTo rowTo nextRow untilLater derivedRow derivedRows sinceEarlier pastRow pastRows start first feed close
-    wordFor word refusalNumber byteOf recordsOf wrongLengthIn usedBytes uses fairLimits usedRight byteBreaks
+    wordFor word refusalNumber byteOf recordsOf wrongLengthIn usedBytes uses fairLimits namesRight usedRight byteBreaks
     firstBroken sameRecord firstTwins isFound orElse firstWhere endless intervalOf intervalFor nodeOf recordIn nodeFor
     nodeIn ruleIn signalBreaks wrongSignals namesMissing limitOf wrongRecord timeOf temperatureOf windOf windMeets meets
     signalHolds signalWord entryOf firstRefusal isRefused wordOf manyParameters listTests listsRefusal lastTime accepts

@@ -14,6 +14,34 @@ use Rattle.rewriting.specs.declared.step.Record.{Record}
 abbrev pub recordBytes : ℕ
 recordBytes = 8
 
+-- the kinds of a rule's records, by their first byte
+abbrev pub kindTrue : ℕ
+kindTrue = 1
+
+abbrev pub kindFalse : ℕ
+kindFalse = 2
+
+abbrev pub kindSignal : ℕ
+kindSignal = 3
+
+abbrev pub kindAnd : ℕ
+kindAnd = 4
+
+abbrev pub kindXor : ℕ
+kindXor = 5
+
+abbrev pub kindNext : ℕ
+kindNext = 6
+
+abbrev pub kindUntil : ℕ
+kindUntil = 7
+
+abbrev pub kindPrevious : ℕ
+kindPrevious = 8
+
+abbrev pub kindSince : ℕ
+kindSince = 9
+
 -- byte i of record k of a list whose records have so many bytes, and of a list of rule or signal records
 abbrev pub byteIn : (size : ℕ) → List ℕ → (k i : ℕ) → ℕ
 byteIn size list k i = getD list (size * k + i) 0
@@ -32,14 +60,14 @@ intervalOf kind low high = cond (endless kind high) (onward low) (between low hi
 -- the record of a kind, with its bytes and its interval
 unfoldable pub nodeOf : (kind left right : ℕ) → Interval → Node
 nodeOf kind left right v =
-    cond (eqb kind 1) (fixed true)
-    (cond (eqb kind 2) (fixed false)
-    (cond (eqb kind 3) (signal left)
-    (cond (eqb kind 4) (both left right)
-    (cond (eqb kind 5) (either left right)
-    (cond (eqb kind 6) (next left v)
-    (cond (eqb kind 7) (until left right v)
-    (cond (eqb kind 8) (previous left v) (since left right v))))))))
+    cond (eqb kind kindTrue) (fixed true)
+    (cond (eqb kind kindFalse) (fixed false)
+    (cond (eqb kind kindSignal) (signal left)
+    (cond (eqb kind kindAnd) (both left right)
+    (cond (eqb kind kindXor) (either left right)
+    (cond (eqb kind kindNext) (next left v)
+    (cond (eqb kind kindUntil) (until left right v)
+    (cond (eqb kind kindPrevious) (previous left v) (since left right v))))))))
 
 -- the record that bytes hold, as the code keeps it
 unfoldable pub recordIn : List ℕ → ℕ → Record

@@ -13,6 +13,7 @@ use forms::join::and;
 use forms::rows::constant;
 use forms::table::put_in;
 ghost use Prim.Native.Nat.{_≤_};
+ghost use Rattle.rewriting.specs.Decode.{kindNext};
 ghost use Rattle.rewriting.specs.declared.row.Row.the-variants.{Derived};
 ghost use Rattle.rewriting.specs.inside.Steps.{Fair, OfNext, OfLater, OfMade};
 
@@ -57,7 +58,7 @@ pub(crate) fn derived_row(
     scratch: usize,
     held: usize,
 ) -> [u64; 64]
-    requires { ⌜ Fair step × (6 ≤ step .record .kind) ⌝ }
+    requires { ⌜ Fair step × (kindNext ≤ step .record .kind) ⌝ }
     ensures { λ r. ⌜ OfMade Derived step (now (forms .entry)) k (now (area .entry)) scratch held r ⌝ }
 {
     let kind = step.record.kind;

@@ -14,6 +14,7 @@ use forms::rows::constant;
 use forms::rows::parameter;
 use forms::table::put_in;
 ghost use Prim.Native.Nat.{_≤_};
+ghost use Rattle.rewriting.specs.Decode.{kindNext};
 ghost use Rattle.rewriting.specs.declared.row.Row.the-variants.{Past};
 ghost use Rattle.rewriting.specs.inside.Steps.{Fair, OfPrevious, OfEarlier, OfMade};
 
@@ -66,7 +67,7 @@ pub(crate) fn past_row(
     scratch: usize,
     held: usize,
 ) -> [u64; 64]
-    requires { ⌜ Fair step × (6 ≤ step .record .kind) ⌝ }
+    requires { ⌜ Fair step × (kindNext ≤ step .record .kind) ⌝ }
     ensures { λ r. ⌜ OfMade Past step (now (forms .entry)) k (now (area .entry)) scratch held r ⌝ }
 {
     let kind = step.record.kind;

@@ -17,8 +17,9 @@ use Rattle.rewriting.specs.declared.step.Interval.{Interval}
 use Rattle.rewriting.specs.declared.step.Record.{Record}
 use Rattle.rewriting.specs.Decode.{byteOf, recordIn}
 use Rattle.rewriting.specs.Clauses.{EndlessClause}
-use Rattle.watcher.specs.Rules.{recordsOf, wrongLengthIn, usedBytes, uses, fairLimits, usedRight}
+use Rattle.watcher.specs.Rules.{recordsOf, wrongLengthIn, usedBytes, uses, fairLimits, namesRight, usedRight}
 use Rattle.watcher.specs.Rules.{byteBreaks, firstBroken, ruleBreaks, sameRecord, firstTwins, hasTwins}
+use Rattle.rewriting.proofs.Rules.{record-kind}
 use Rattle.watcher.proofs.Places.{where-some}
 
 -- the table of used bytes is false past its ends
@@ -49,57 +50,66 @@ module _ (size most : ℕ) (list : List ℕ) where
   length-odd n = rw (ne-eqb (length list % size) 0 n)
 
 -- limits
-abbrev fairly : Interval → Bool
-fairly v = fairLimits (v .kind) (v .low) (v .high)
-
 module _ (v : Interval) (b : Bool) (tells : EndlessClause v b) where
-  pub fair-endless : b ≡ true → leb (v .low) 254 ≡ fairly v
+  pub fair-endless : b ≡ true → leb (v .low) 254 ≡ fairLimits v
   unfolding fairLimits
   fair-endless e = rw (← tells, e)
 
-  pub fair-between : b ≡ false → leb (v .low) (v .high) ≡ fairly v
+  pub fair-between : b ≡ false → leb (v .low) (v .high) ≡ fairLimits v
   unfolding fairLimits
   fair-between e = rw (← tells, e)
 
+-- what a byte names
+module _ (kind named k : ℕ) where
+  pub names-signal : kind ≡ 3 → ltb named mostSignals ≡ namesRight kind named k
+  unfolding namesRight
+  names-signal e = rw (eq-eqb kind 3 e)
+
+  pub names-record : (kind ≡ 3 → ⊥) → ltb named k ≡ namesRight kind named k
+  unfolding namesRight
+  names-record e = rw (ne-eqb kind 3 e)
+
 -- a used byte
-module _ (list : List ℕ) (k i kind : ℕ) (is : kind ≡ byteOf list k 0) where
-  pub right-kind : i ≡ 0 → 1 ≤ kind → leb kind 9 ≡ usedRight list k i
+module _ (d : Record) (k i : ℕ) where
+  pub right-kind : i ≡ 0 → 1 ≤ d .kind → leb (d .kind) 9 ≡ usedRight d k i
   unfolding usedRight
-  right-kind e h = rw (eq-eqb i 0 e, ← is, le-leb 1 kind h)
+  right-kind e h = rw (eq-eqb i 0 e, le-leb 1 (d .kind) h)
 
-  pub right-none : i ≡ 0 → kind < 1 → false ≡ usedRight list k i
+  pub right-none : i ≡ 0 → d .kind < 1 → false ≡ usedRight d k i
   unfolding usedRight
-  right-none e h = rw (eq-eqb i 0 e, ← is, lt-leb 1 kind h)
+  right-none e h = rw (eq-eqb i 0 e, lt-leb 1 (d .kind) h)
 
-  pub right-signal : (named : ℕ) → (i ≡ 0 → ⊥) → i ≤ 2 → named ≡ byteOf list k i → kind ≡ 3
-      → ltb named mostSignals ≡ usedRight list k i
-  unfolding usedRight
-  right-signal named n h b e = rw (ne-eqb i 0 n, le-leb i 2 h, ← is, eq-eqb kind 3 e, b)
+  module _ (r : Bool) (n : i ≡ 0 → ⊥) where
+    pub right-left : i ≡ 1 → r ≡ namesRight (d .kind) (d .left) k → r ≡ usedRight d k i
+    unfolding usedRight
+    right-left e p = rw (ne-eqb i 0 n, eq-eqb i 1 e) p
 
-  pub right-record : (named : ℕ) → (i ≡ 0 → ⊥) → i ≤ 2 → named ≡ byteOf list k i → (kind ≡ 3 → ⊥)
-      → ltb named k ≡ usedRight list k i
-  unfolding usedRight
-  right-record named n h b e = rw (ne-eqb i 0 n, le-leb i 2 h, ← is, ne-eqb kind 3 e, b)
+    module _ (n₁ : i ≡ 1 → ⊥) where
+      pub right-right : i ≡ 2 → r ≡ namesRight (d .kind) (d .right) k → r ≡ usedRight d k i
+      unfolding usedRight
+      right-right e p = rw (ne-eqb i 0 n, ne-eqb i 1 n₁, eq-eqb i 2 e) p
 
-  pub right-limits : (d : Record) (r : Bool) → (i ≡ 0 → ⊥) → 2 < i → d ≡ recordIn list k → r ≡ fairly (d .interval)
-      → r ≡ usedRight list k i
-  unfolding usedRight recordIn
-  right-limits d r n h q e = rw (ne-eqb i 0 n, lt-leb i 2 h) (e ∙ ap (λ (x : Record). fairly (x .interval)) q)
+      pub right-limits : (i ≡ 2 → ⊥) → r ≡ fairLimits (d .interval) → r ≡ usedRight d k i
+      unfolding usedRight
+      right-limits n₂ p = rw (ne-eqb i 0 n, ne-eqb i 1 n₁, ne-eqb i 2 n₂) p
 
 -- a byte of a record
-module _ (list : List ℕ) (k i : ℕ) where
-  pub breaks-kind : (r : Bool) → i ≡ 0 → r ≡ usedRight list k i → not r ≡ byteBreaks list k i
+module _ (list : List ℕ) (d : Record) (k i : ℕ) (is : d ≡ recordIn list k) where
+  pub breaks-kind : (r : Bool) → i ≡ 0 → r ≡ usedRight d k i → not r ≡ byteBreaks list k i
   unfolding byteBreaks
-  breaks-kind r e p = rw (eq-eqb i 0 e, p)
+  breaks-kind r e p = rw (eq-eqb i 0 e, p, is)
 
-  module _ (kind : ℕ) (is : kind ≡ byteOf list k 0) (used : Bool) (u : used ≡ uses kind i) (n : i ≡ 0 → ⊥) where
-    pub breaks-used : (r : Bool) → used ≡ true → r ≡ usedRight list k i → not r ≡ byteBreaks list k i
+  module _ (used : Bool) (u : used ≡ uses (d .kind) i) (n : i ≡ 0 → ⊥) where
+    told : used ≡ uses (byteOf list k 0) i
+    told = u ∙ ap (λ x. uses x i) (record-kind list k d is)
+
+    pub breaks-used : (r : Bool) → used ≡ true → r ≡ usedRight d k i → not r ≡ byteBreaks list k i
     unfolding byteBreaks
-    breaks-used r t p = rw (ne-eqb i 0 n, ← is, ← u, t, p)
+    breaks-used r t p = rw (ne-eqb i 0 n, ← told, t, p, is)
 
     pub breaks-unused : (b : ℕ) → used ≡ false → b ≡ byteOf list k i → not (eqb b 0) ≡ byteBreaks list k i
     unfolding byteBreaks
-    breaks-unused b t p = rw (ne-eqb i 0 n, ← is, ← u, t, p)
+    breaks-unused b t p = rw (ne-eqb i 0 n, ← told, t, p)
 
 -- a list that is not too long has at most sixteen records
 pub records-few : (list : List ℕ) (n : ℕ) → n ≡ recordsOf list → length list ≤ listBytes → n ≤ mostRecords

@@ -18,7 +18,8 @@ use Rattle.watcher.specs.declared.state.Refusal.{Refusal}
 use Rattle.watcher.specs.declared.state.Found.{Found}
 use Rattle.watcher.specs.declared.state.Found.the-variants.{Fine, Refused}
 use Rattle.rewriting.specs.Decode.{byteOf}
-use Rattle.watcher.specs.Rules.{recordsOf, wrongLengthIn, wrongLength, usedBytes, uses, fairLimits, usedRight}
+use Rattle.watcher.specs.Rules.{recordsOf, wrongLengthIn, wrongLength, usedBytes, uses, fairLimits}
+use Rattle.watcher.specs.Rules.{namesRight, usedRight}
 use Rattle.rewriting.specs.Decode.{recordIn, nodeIn, ruleIn}
 use Rattle.watcher.specs.Rules.{byteBreaks, ruleBreaks, hasTwins}
 use Rattle.watcher.specs.Signals.{wrongSignals, namesMissing}
@@ -90,18 +91,18 @@ pub record Laid (list : List ℕ) (k : ℕ) : Type 0 where
   pub signal : byteOf list k 0 ≡ 3 → byteOf list k 1 < 16
   pub left : (byteOf list k 0 ≡ 3 → ⊥) → uses (byteOf list k 0) 1 ≡ true → byteOf list k 1 < k
   pub right : uses (byteOf list k 0) 2 ≡ true → byteOf list k 2 < k
-  pub limits : uses (byteOf list k 0) 4 ≡ true → fairLimits (byteOf list k 3) (byteOf list k 4) (byteOf list k 5) ≡ true
+  pub limits : uses (byteOf list k 0) 4 ≡ true → fairLimits (recordIn list k .interval) ≡ true
 
 -- a used byte of a record that keeps the layout is what the kind wants there
 byte-fine : (list : List ℕ) (k i : ℕ) → Keeps list k → i < 8
-    → (eqb i 0 || uses (byteOf list k 0) i) ≡ true → usedRight list k i ≡ true
+    → (eqb i 0 || uses (byteOf list k 0) i) ≡ true → usedRight (recordIn list k) k i ≡ true
 unfolding byteBreaks
 byte-fine list k i e h u =
-    ap (λ b. cond b (usedRight list k i) (eqb (byteOf list k i) 0)) (sym u)
+    ap (λ b. cond b (usedRight (recordIn list k) k i) (eqb (byteOf list k i) 0)) (sym u)
     ∙ not-false _ (e i h)
 
 pub record-fine : (list : List ℕ) (k : ℕ) → Keeps list k → Laid list k
-unfolding usedRight uses usedBytes
+unfolding recordIn usedRight namesRight uses usedBytes
 record-fine list k e =
     record {
       low = leb-true 1 kind (kinds .0);
@@ -213,7 +214,7 @@ module _ (rule signals : List ℕ) (fine : Accepted rule signals) where
   -- the signal list has 1 to 16 records
   pub accepted-list : Whole signals
   unfolding wrongSignals
-  accepted-list = length-fine signals (neither (wrongLength signals) _ (fine .listed) .0)
+  accepted-list = length-fine signals (neither _ _ (fine .listed) .0)
 
   pub accepted-signals : (k s : ℕ) → nodeAt (ruleIn rule (recordsOf rule)) k ≡ signal s
       → (s < recordsOf signals) × (s < 16)

@@ -19,7 +19,7 @@ use Rattle.watcher.specs.declared.state.Verdict.{Verdict}
 use Rattle.watcher.specs.declared.state.Phase.{Phase}
 use Rattle.watcher.specs.declared.state.Limits.{Limits}
 use Rattle.watcher.specs.Clauses.{LimitsClause, IsRefusedClause, WordClause, LastClause, ZeroStateClause}
-use Rattle.watcher.specs.Clauses.{CheckListsClause, NumberClause}
+use Rattle.watcher.specs.Clauses.{CheckRuleClause, CheckListsClause, NumberClause}
 use Rattle.watcher.specs.Clauses.{WrongRecordClause, TimeOfClause, SignalWordClause}
 use Rattle.watcher.specs.Clauses.{StartWouldRefuseClause, StartClause, WouldRefuseClause, FeedClause}
 use Rattle.watcher.specs.Clauses.{CloseClause, HorizonClause}
@@ -39,6 +39,9 @@ only-last phase o o′ a b = ap (λ (e : Entry). record { time = e .time; signal
 
 pub only-zero-state : (o o′ : Watcher) → ZeroStateClause o → ZeroStateClause o′ → o ≡ o′
 only-zero-state = only-one _
+
+pub only-check-rule : (rule : List ℕ) (o o′ : Found) → CheckRuleClause rule o → CheckRuleClause rule o′ → o ≡ o′
+only-check-rule rule = only-one _
 
 pub only-check-lists : (rule signals : List ℕ) (o o′ : Found) → CheckListsClause rule signals o
     → CheckListsClause rule signals o′ → o ≡ o′

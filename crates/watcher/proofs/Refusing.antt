@@ -7,15 +7,16 @@ use Prim.Native.Nat.{ℕ, _≤_}
 use native.Mathlib.Omega.{arith}
 use lib.ListN.{length}
 use Rattle.ground.specs.Fold.{some}
+use Rattle.rewriting.specs.Decode.{recordBytes}
 use Rattle.watcher.specs.declared.state.Place.{Place}
 use Rattle.watcher.specs.declared.state.Refusal.{Refusal}
 use Rattle.watcher.specs.declared.state.Refusal.the-variants.{RuleLength, RuleRecord, RuleTwins, RuleParameters}
 use Rattle.watcher.specs.declared.state.Refusal.the-variants.{SignalList, SignalMissing}
 use Rattle.watcher.specs.declared.state.Found.{Found}
 use Rattle.watcher.specs.declared.state.Found.the-variants.{Fine, Refused}
-use Rattle.watcher.specs.Limits.{listBytes}
+use Rattle.watcher.specs.Limits.{mostSignals, listBytes}
 use Rattle.watcher.specs.Places.{isFound}
-use Rattle.watcher.specs.Rules.{recordsOf, wrongLength, ruleBreaks, hasTwins}
+use Rattle.watcher.specs.Rules.{recordsOf, wrongLengthIn, wrongLength, ruleBreaks, hasTwins}
 use Rattle.watcher.specs.Signals.{signalBreaks, wrongSignals, namesMissing}
 use Rattle.watcher.specs.Lists.{firstRefusal, ruleTests, ruleRefusal, listTests, listsRefusal}
 use Rattle.watcher.specs.Rules.{manyParameters}
@@ -87,16 +88,19 @@ module _ (rule signals : List ℕ) (found : Found) (is : found ≡ ruleRefusal r
 
 -- a wrong length or a wrong record makes the signal list wrong
 module _ (list : List ℕ) where
-  pub signals-length : wrongLength list ≡ true → wrongSignals list ≡ true
+  abbrev wrong : Bool
+  wrong = wrongLengthIn recordBytes mostSignals list
+
+  pub signals-length : wrong ≡ true → wrongSignals list ≡ true
   unfolding wrongSignals
   signals-length a = rw a
 
-  pub signals-record : wrongLength list ≡ false → some (recordsOf list) (signalBreaks list) ≡ true
+  pub signals-record : wrong ≡ false → some (recordsOf list) (signalBreaks list) ≡ true
       → wrongSignals list ≡ true
   unfolding wrongSignals
   signals-record a b = rw (a, b)
 
-  pub signals-fine : wrongLength list ≡ false → some (recordsOf list) (signalBreaks list) ≡ false
+  pub signals-fine : wrong ≡ false → some (recordsOf list) (signalBreaks list) ≡ false
       → wrongSignals list ≡ false
   unfolding wrongSignals
   signals-fine a b = rw (a, b)

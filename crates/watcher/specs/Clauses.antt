@@ -17,7 +17,7 @@ use Rattle.watcher.specs.declared.state.Verdict.{Verdict}
 use Rattle.watcher.specs.declared.state.Phase.{Phase}
 use Rattle.watcher.specs.declared.state.Limits.{Limits}
 use Rattle.watcher.specs.Limits.{limitsOf}
-use Rattle.watcher.specs.Lists.{listsRefusal}
+use Rattle.watcher.specs.Lists.{ruleRefusal, listsRefusal}
 use Rattle.watcher.specs.Records.{wrongRecord, timeOf, signalWord}
 use Rattle.watcher.specs.Numbers.{refusalNumber, decided, verdictValue, stageOf, lastIn, horizonFor}
 use Rattle.watcher.specs.State.{isRefused}
@@ -42,6 +42,10 @@ LastClause phase o = entryFor o ≡ lastIn (stageOf phase)
 -- a fresh state of zeros
 abbrev pub ZeroStateClause : Watcher → Type 0
 ZeroStateClause o = o ≡ zeroState
+
+-- what is refused of a rule by itself
+abbrev pub CheckRuleClause : (rule : List ℕ) → Found → Type 0
+CheckRuleClause rule o = o ≡ ruleRefusal rule
 
 -- what is refused of the lists that start is given
 abbrev pub CheckListsClause : (rule signals : List ℕ) → Found → Type 0

@@ -6,7 +6,10 @@ use lib.Dec.{eqb, leb, ltb}
 use lib.ListN.{length, getD}
 use Rattle.ground.specs.Fold.{every}
 use Rattle.meaning.specs.Rule.{parameters}
-use Rattle.rewriting.specs.Decode.{recordBytes, byteIn, byteOf, endless, ruleIn}
+use Rattle.rewriting.specs.declared.step.Interval.{Interval}
+use Rattle.rewriting.specs.declared.step.Record.{Record}
+use Rattle.rewriting.specs.Decode.{recordBytes, kindTrue, kindSignal, kindSince, byteIn, byteOf}
+use Rattle.rewriting.specs.Decode.{endless, recordIn, ruleIn}
 use Rattle.watcher.specs.declared.state.Place.{Place}
 use Rattle.watcher.specs.Limits.{mostRecords, mostSignals, mostParameters}
 use Rattle.watcher.specs.Places.{isFound, firstWhere}
@@ -45,19 +48,24 @@ unfoldable pub uses : ℕ → ℕ → Bool
 uses kind i = getD (getD usedBytes kind []) i false
 
 -- low is at most high, or there is no upper end, and low is at most 254
-unfoldable pub fairLimits : (kind low high : ℕ) → Bool
-fairLimits kind low high = cond (endless kind high) (leb low 254) (leb low high)
+unfoldable pub fairLimits : Interval → Bool
+fairLimits v = cond (endless (v .kind) (v .high)) (leb (v .low) 254) (leb (v .low) (v .high))
 
--- byte i of record k is what the kind wants there: a kind 1 to 9, a signal number, an earlier record, fair limits
-unfoldable pub usedRight : List ℕ → ℕ → ℕ → Bool
-usedRight list k i =
-    cond (eqb i 0) (leb 1 (byteOf list k 0) && leb (byteOf list k 0) 9)
-    (cond (leb i 2) (ltb (byteOf list k i) (cond (eqb (byteOf list k 0) 3) mostSignals k))
-    (fairLimits (byteOf list k 3) (byteOf list k 4) (byteOf list k 5)))
+-- a byte of record k names a signal, or else an earlier record
+unfoldable pub namesRight : (kind named k : ℕ) → Bool
+namesRight kind named k = ltb named (cond (eqb kind kindSignal) mostSignals k)
+
+-- byte i of record k is what the kind wants there: a kind 1 to 9, a signal or an earlier record, fair limits
+unfoldable pub usedRight : Record → (k i : ℕ) → Bool
+usedRight d k i =
+    cond (eqb i 0) (leb kindTrue (d .kind) && leb (d .kind) kindSince)
+    (cond (eqb i 1) (namesRight (d .kind) (d .left) k)
+    (cond (eqb i 2) (namesRight (d .kind) (d .right) k) (fairLimits (d .interval))))
 
 -- byte i of record k breaks the layout: byte 0 is no kind, a used byte is wrong, or an unused one is not zero
-unfoldable pub byteBreaks : List ℕ → ℕ → ℕ → Bool
-byteBreaks list k i = not (cond (eqb i 0 || uses (byteOf list k 0) i) (usedRight list k i) (eqb (byteOf list k i) 0))
+unfoldable pub byteBreaks : List ℕ → (k i : ℕ) → Bool
+byteBreaks list k i =
+    not (cond (eqb i 0 || uses (byteOf list k 0) i) (usedRight (recordIn list k) k i) (eqb (byteOf list k i) 0))
 
 -- where the layout is first broken, byte by byte: the lowest record, and its lowest byte
 unfoldable pub firstBroken : (size : ℕ) → (breaks : List ℕ → ℕ → ℕ → Bool) → List ℕ → Place

@@ -2,9 +2,9 @@
 ghost use mathlib.Core.Path.{_≡_};
 ghost use Prim.Native.Nat.{_+_, _*_, _<_, _≤_};
 ghost use lib.ListN.{length};
-ghost use Rattle.rewriting.specs.Decode.{recordBytes};
-ghost use Rattle.watcher.specs.Limits.{mostRecords, listBytes};
-ghost use Rattle.watcher.specs.Rules.{recordsOf, wrongLengthIn, uses, fairLimits, usedRight, byteBreaks};
+ghost use Rattle.rewriting.specs.Decode.{recordBytes, recordIn};
+ghost use Rattle.watcher.specs.Limits.{listBytes};
+ghost use Rattle.watcher.specs.Rules.{recordsOf, wrongLengthIn, uses, fairLimits, namesRight, usedRight, byteBreaks};
 ghost use Rattle.watcher.specs.Rules.{firstBroken, sameRecord, firstTwins, manyParameters};
 use crate::state::Place;
 use crate::state::Watcher;
@@ -17,6 +17,7 @@ use rewriting::rule::byte_of;
 use rewriting::rule::parameters_in;
 use rewriting::rule::record_at;
 use rewriting::step::Interval;
+use rewriting::step::Record;
 
 // Kinds 0, which is none, to 9.
 const KINDS: usize = 10;
@@ -75,7 +76,7 @@ pub(crate) fn wrong_length(list: &[u8], size: usize, most: usize) -> bool
 
 // Whether `low` is at most `high`, or at most 254 where there is no upper end.
 pub(crate) fn fair_limits(interval: Interval) -> bool
-    ensures { λ r. ⌜ r ≡ fairLimits (interval .kind) (interval .low) (interval .high) ⌝ }
+    ensures { λ r. ⌜ r ≡ fairLimits interval ⌝ }
 {
     if endless(interval) {
         interval.low <= 254
@@ -84,37 +85,43 @@ pub(crate) fn fair_limits(interval: Interval) -> bool
     }
 }
 
-// Whether byte `i` of record `k` is what its kind wants there.
-pub(crate) fn used_right(list: &[u8], k: usize, i: usize) -> bool
-    requires { ⌜ (k < mostRecords) × (i < recordBytes) ⌝ }
-    ensures { λ r. ⌜ r ≡ usedRight (now (list .entry)) k i ⌝ }
+// Whether a byte of record `k` names a signal, or else an earlier record.
+pub(crate) fn names_right(kind: u8, named: u8, k: usize) -> bool
+    ensures { λ r. ⌜ r ≡ namesRight kind named k ⌝ }
 {
-    let record = record_at(list, k);
+    if kind == SIGNAL {
+        (named as usize) < Watcher::SIGNALS
+    } else {
+        (named as usize) < k
+    }
+}
+
+// Whether byte `i` of record `k` is what its kind wants there.
+pub(crate) fn used_right(record: Record, k: usize, i: usize) -> bool
+    ensures { λ r. ⌜ r ≡ usedRight «record» k i ⌝ }
+{
     let kind = record.kind;
     if i == 0 {
         if TRUE <= kind { kind <= SINCE } else { false }
-    } else if i <= 2 {
-        let named = byte_of(list, k, i) as usize;
-        if kind == SIGNAL {
-            named < Watcher::SIGNALS
-        } else {
-            named < k
-        }
+    } else if i == 1 {
+        names_right(kind, record.left, k)
+    } else if i == 2 {
+        names_right(kind, record.right, k)
     } else {
         fair_limits(record.interval)
     }
 }
 
-// Whether byte `i` of record `k` breaks the layout.
-pub(crate) fn byte_breaks(list: &[u8], k: usize, i: usize) -> bool
-    requires { ⌜ (k < mostRecords) × (i < recordBytes) ⌝ }
+// Whether byte `i` of record `k`, which was read, breaks the layout.
+pub(crate) fn byte_breaks(list: &[u8], record: Record, k: usize, i: usize) -> bool
+    requires { ⌜ «record» ≡ recordIn (now list) k ⌝ }
     ensures { λ r. ⌜ r ≡ byteBreaks (now (list .entry)) k i ⌝ }
 {
-    let kind = byte_of(list, k, 0) as usize;
+    let kind = record.kind as usize;
     if i == 0 {
-        !used_right(list, k, i)
+        !used_right(record, k, i)
     } else if uses(kind, i) {
-        !used_right(list, k, i)
+        !used_right(record, k, i)
     } else {
         byte_of(list, k, i) != 0
     }
@@ -122,13 +129,13 @@ pub(crate) fn byte_breaks(list: &[u8], k: usize, i: usize) -> bool
 
 // Where the layout is first broken: the lowest record, and its lowest byte.
 pub(crate) fn first_broken(list: &[u8]) -> Place
-    requires { ⌜ length (now list) ≤ listBytes ⌝ }
     ensures { λ r. ⌜ r ≡ firstBroken recordBytes byteBreaks (now (list .entry)) ⌝ }
 {
     let records = records_of(list);
     for k in 0..records {
+        let record = record_at(list, k);
         for i in 0..Watcher::RECORD_BYTES {
-            if byte_breaks(list, k, i) {
+            if byte_breaks(list, record, k, i) {
                 return Place::At {
                     record: k,
                     second: i,
@@ -154,23 +161,25 @@ pub(crate) fn same_record(list: &[u8], size: usize, i: usize, j: usize) -> bool
     true
 }
 
-// Where the first twins are: the lowest record that has an earlier twin, and its earliest twin.
+// Where the first twins are: the lowest record that has an earlier twin, and the earliest; they end the search.
 pub(crate) fn first_twins(list: &[u8], size: usize) -> Place
     requires { ⌜ 0 < size ⌝ }
     ensures { λ r. ⌜ r ≡ firstTwins size (now (list .entry)) ⌝ }
 {
     let records = list.len() / size;
-    for i in 0..records {
+    let mut found = Place::Nowhere;
+    'pairs: for i in 0..records {
         for j in 0..i {
             if same_record(list, size, i, j) {
-                return Place::At {
+                found = Place::At {
                     record: i,
                     second: j,
                 };
+                break 'pairs;
             }
         }
     }
-    Place::Nowhere
+    found
 }
 
 // Whether the rule has more parameters than it may.

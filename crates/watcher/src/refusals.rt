@@ -14,15 +14,15 @@ use crate::state::Phase;
 use crate::state::Refusal;
 use crate::state::Watcher;
 ghost use mathlib.Core.Path.{_≡_};
-ghost use Rattle.watcher.specs.Lists.{firstRefusal, ruleRefusal};
+ghost use Rattle.watcher.specs.Lists.{firstRefusal};
 ghost use Rattle.watcher.specs.Calls.{isClosed, isFresh, tooEarly};
 ghost use Rattle.watcher.specs.Calls.{startRefusal, stateTests, feedRefusal, closeRefusal};
 ghost use Rattle.watcher.specs.Numbers.{stageOf};
-ghost use Rattle.watcher.specs.Clauses.{CheckListsClause, NumberClause};
+ghost use Rattle.watcher.specs.Clauses.{CheckRuleClause, CheckListsClause, NumberClause};
 
 // What is refused of a rule by itself: refusals 1 to 3.
-pub(crate) fn check_rule(rule: &[u8]) -> Found
-    ensures { λ r. ⌜ r ≡ ruleRefusal (now (rule .entry)) ⌝ }
+pub fn check_rule(rule: &[u8]) -> Found
+    ensures { λ r. ⌜ CheckRuleClause (now (rule .entry)) r ⌝ }
 {
     if wrong_length(rule, Watcher::RECORD_BYTES, Watcher::RECORDS) {
         return Found::Refused(Refusal::RuleLength);
@@ -49,7 +49,7 @@ pub fn check_lists(rule: &[u8], signals: &[u8]) -> Found
             if many_parameters(rule) {
                 return Found::Refused(Refusal::RuleParameters);
             }
-            if wrong_length(signals, Watcher::RECORD_BYTES, Watcher::RECORDS) {
+            if wrong_length(signals, Watcher::RECORD_BYTES, Watcher::SIGNALS) {
                 return Found::Refused(Refusal::SignalList);
             }
             if bad_signals(signals) {

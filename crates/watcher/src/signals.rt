@@ -5,13 +5,10 @@ use ground::bytes::four;
 use rewriting::kind::SIGNAL;
 use rewriting::rule::record_at;
 ghost use mathlib.Core.Path.{_≡_};
-ghost use mathlib.Core.Bool.{_&&_};
 ghost use Prim.Native.Nat.{_<_};
-ghost use lib.Dec.{eqb, leb};
 ghost use Rattle.ground.specs.Fold.{some};
-ghost use Rattle.rewriting.specs.Decode.{byteOf};
 ghost use Rattle.watcher.specs.Rules.{recordsOf};
-ghost use Rattle.watcher.specs.Signals.{signalBreaks, namesMissing};
+ghost use Rattle.watcher.specs.Signals.{signalBreaks, namesMissingAt, namesMissing};
 
 // Whether record k breaks the layout.
 pub(crate) fn signal_breaks(list: &[u8], k: usize) -> bool
@@ -47,7 +44,7 @@ pub(crate) fn bad_signals(list: &[u8]) -> bool
 
 // Whether record k of the rule names a signal that a list of so many does not define.
 fn names_missing_at(rule: &[u8], signals: usize, k: usize) -> bool
-    ensures { λ r. ⌜ r ≡ (eqb (byteOf (now (rule .entry)) k 0) 3 && leb signals (byteOf (now (rule .entry)) k 1)) ⌝ }
+    ensures { λ r. ⌜ r ≡ namesMissingAt (now (rule .entry)) signals k ⌝ }
 {
     let record = record_at(rule, k);
     if record.kind != SIGNAL {

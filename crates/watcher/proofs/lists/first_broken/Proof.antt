@@ -9,15 +9,14 @@ use borrow.Author.Needs.{needs}
 use Rattle.rewriting.specs.Decode.{recordBytes}
 use Rattle.watcher.specs.Rules.{recordsOf, byteBreaks, firstBroken}
 use Rattle.watcher.proofs.Places.{Clear, where-at, where-none}
-use Rattle.watcher.proofs.Checking.{records-few}
 use Rattle.watcher.proofs.lists.first_broken.Statement.{statement}
 use Rattle.watcher.proofs.lists.first_broken.Tie as tie
 
 abbrev Inv-loop2 : tie.InvT-loop2
-Inv-loop2 list records k i₀ i = (i ≤ recordBytes) × ((b : ℕ) → b < i → byteBreaks list k b ≡ false)
+Inv-loop2 list records k «record» i₀ i = (i ≤ recordBytes) × ((b : ℕ) → b < i → byteBreaks list k b ≡ false)
 
 abbrev μ-loop2 : tie.MeasureT-loop2
-μ-loop2 list records k i₀ i = recordBytes - i
+μ-loop2 list records k «record» i₀ i = recordBytes - i
 
 abbrev Inv-loop : tie.InvT-loop
 Inv-loop list records k₀ k = (k ≤ records) × Clear (λ a. recordBytes) (byteBreaks list) k
@@ -31,13 +30,14 @@ records-of-requires c κs = search needs
 loop-holds : tie.Need-loop-holds Inv-loop2 μ-loop2 Inv-loop μ-loop
 loop-holds c = (search needs, below-none _)
 
+record-at-requires : tie.Need-record-at-requires Inv-loop2 μ-loop2 Inv-loop μ-loop
+record-at-requires c κs = search needs
+
 loop2-holds : tie.Need-loop2-holds Inv-loop2 μ-loop2 Inv-loop μ-loop
 loop2-holds c = (search needs, below-none _)
 
 byte-breaks-requires : tie.Need-byte-breaks-requires Inv-loop2 μ-loop2 Inv-loop μ-loop
-byte-breaks-requires c κs =
-    let p = c .before .before .before .before in
-    let few = records-few _ _ (p .records-of .ensures) (p .before .before .pre) in (omega arith, omega arith)
+byte-breaks-requires c κs = c .before .before .record-at .ensures
 
 returns : tie.Need-returns Inv-loop2 μ-loop2 Inv-loop μ-loop
 unfolding firstBroken recordsOf
@@ -47,7 +47,7 @@ returns c =
     (record {
       inside = (omega arith, omega arith);
       holds = sym (c .before .byte-breaks .ensures) ∙ c .if1 .taken;
-      clear = row .before .before .loop .inv .1;
+      clear = row .before .before .before .loop .inv .1;
       lower = row .loop2 .inv .1;
     }))
 
@@ -72,7 +72,7 @@ loop-less c = search needs
 loop-again : tie.Need-loop-again Inv-loop2 μ-loop2 Inv-loop μ-loop
 loop-again c = (
   search needs,
-  below-more _ _ (c .before .before .before .loop .inv .1) (λ b h. c .before .loop2 .inv .1 b (omega arith)),
+  below-more _ _ (c .before .before .before .before .loop .inv .1) (λ b h. c .before .loop2 .inv .1 b (omega arith)),
 )
 
 returns-2 : tie.Need-returns-2 Inv-loop2 μ-loop2 Inv-loop μ-loop
@@ -89,6 +89,7 @@ first-broken-spec =
     μ-loop
     records-of-requires
     loop-holds
+    record-at-requires
     loop2-holds
     byte-breaks-requires
     returns

@@ -2,7 +2,7 @@
 -- Assumes nothing.
 use mathlib.Core.Path.{sym, _∙_}
 use borrow.Author.Needs.{needs}
-use Rattle.watcher.proofs.Refusing.{length-most, place-told, refuse-length, refuse-record, refuse-twins}
+use Rattle.watcher.proofs.Refusing.{place-told, refuse-length, refuse-record, refuse-twins}
 use Rattle.watcher.proofs.Refusing.{rule-fine}
 use Rattle.watcher.proofs.refusals.check_rule.Statement.{statement}
 use Rattle.watcher.proofs.refusals.check_rule.Tie as tie
@@ -14,7 +14,7 @@ returns : tie.Need-returns
 returns c = refuse-length _ (sym (c .before .wrong-length .ensures) ∙ c .if1 .taken)
 
 first-broken-requires : tie.Need-first-broken-requires
-first-broken-requires c κs = length-most _ (sym (c .before .wrong-length .ensures) ∙ c .if1 .left)
+first-broken-requires c κs = search needs
 
 is-found-requires : tie.Need-is-found-requires
 is-found-requires c κs = search needs

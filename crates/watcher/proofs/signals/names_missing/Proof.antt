@@ -1,22 +1,20 @@
 -- `names_missing` leaves at the first record that names a signal past the count; those before do not.
 -- Assumes nothing.
 use mathlib.Core.Path.{_≡_, sym, _∙_}
-use mathlib.Core.Bool.{false, _&&_}
+use mathlib.Core.Bool.{false}
 use Prim.Native.Nat.{ℕ, _-_, _≤_, _<_}
 use native.Mathlib.Omega.{arith}
-use lib.Dec.{eqb, leb}
 use borrow.Author.Count.{below-more}
 use borrow.Author.Needs.{needs}
 use Rattle.ground.proofs.Folds.{some-at, some-none}
-use Rattle.rewriting.specs.Decode.{byteOf}
 use Rattle.watcher.specs.Rules.{recordsOf}
-use Rattle.watcher.specs.Signals.{namesMissing}
+use Rattle.watcher.specs.Signals.{namesMissingAt, namesMissing}
 use Rattle.watcher.proofs.signals.names_missing.Statement.{statement}
 use Rattle.watcher.proofs.signals.names_missing.Tie as tie
 
 abbrev Inv-loop : tie.InvT-loop
 Inv-loop rule signals records k₀ k =
-    (k ≤ records) × ((i : ℕ) → i < k → (eqb (byteOf rule i 0) 3 && leb signals (byteOf rule i 1)) ≡ false)
+    (k ≤ records) × ((i : ℕ) → i < k → namesMissingAt rule signals i ≡ false)
 
 abbrev μ-loop : tie.MeasureT-loop
 μ-loop rule signals records k₀ k = records - k
