@@ -15,6 +15,7 @@ use Rattle.watcher.specs.declared.state.Answer.the-variants as answer
 use Rattle.watcher.specs.declared.state.End.{End}
 use Rattle.watcher.specs.declared.state.End.the-variants as end
 use Rattle.watcher.specs.Numbers.{refusalNumber, Says, foundIn, foundAt}
+use Rattle.watcher.proofs.Reports.{word-says, says-word, says-not}
 use Rattle.demands.specs.Tables.{Carries}
 use Rattle.port.specs.Codes.{wordCode, toldOf, toldAt, toldCode, answerCode, endCode}
 use Rattle.port.proofs.Numbers.{number-low}
@@ -37,15 +38,15 @@ word-large Pending = omega arith
 
 -- a word's code says the word, and a word has its code
 pub code-says : (a : Answer) (w : Word) → answerCode a ≡ wordCode w → Says a w
-unfolding answerCode toldOf toldCode Says
-code-says (answer.Accepted report) w e = word-one (report .word) w e
+unfolding answerCode toldOf toldCode
+code-says (answer.Accepted report) w e = word-says report w (word-one (report .word) w e)
 code-says (answer.Refused r) w e =
     let z : ⊥ = omega (arith, number-low r, word-large w) in absurd z
 
 pub says-code : (a : Answer) (w : Word) → Says a w → answerCode a ≡ wordCode w
-unfolding answerCode toldOf toldCode Says
-says-code (answer.Accepted report) w e = ap wordCode e
-says-code (answer.Refused r) w e = absurd e
+unfolding answerCode toldOf toldCode
+says-code (answer.Accepted report) w s = ap wordCode (says-word report w s)
+says-code (answer.Refused r) w s = absurd (says-not (answer.Refused r) r w refl s)
 
 -- a refusal's code is its number
 pub carries-code : (a : Answer) (n : ℕ) → Carries (foundIn a) n → answerCode a ≡ n

@@ -1,24 +1,22 @@
 -- No three functions of which the demands hold are one of the four bad watchers: example 2 shows it.
 -- Assumes nothing.
-use mathlib.Core.Path.{_≡_, refl, sym, ap, _∙_, subst}
+use mathlib.Core.Path.{_≡_, sym, ap, _∙_, subst}
 use mathlib.Core.Bool.{Bool, true, false}
 use mathlib.Core.List.{List, [], _∷_}
 use Prim.Native.Nat.{ℕ, _^_, _<_}
 use native.Mathlib.Omega.{arith}
 use lib.ListN.{getD}
 use Rattle.meaning.specs.Words.{wordOf}
-use Rattle.watcher.specs.declared.state.Word as said
 use Rattle.watcher.specs.declared.state.Word.the-variants as word
 use Rattle.watcher.specs.declared.state.Found.{Found}
 use Rattle.watcher.specs.declared.state.Found.the-variants.{Fine}
-use Rattle.watcher.specs.declared.state.Answer.{Answer}
-use Rattle.watcher.specs.declared.state.Answer.the-variants as answer
 use Rattle.watcher.specs.declared.state.Started.{Started}
 use Rattle.watcher.specs.Rules.{recordsOf}
 use Rattle.watcher.specs.Records.{entryOf}
-use Rattle.watcher.specs.Numbers.{saying, verdictFor, Says, foundIn, foundAt, decided}
+use Rattle.watcher.specs.Numbers.{saying, verdictFor, Says, foundAt, decided}
 use Rattle.watcher.specs.Calls.{startWith}
 use Rattle.watcher.specs.Runs.{Held}
+use Rattle.watcher.proofs.Reports.{says-fine}
 use Rattle.demands.specs.Watching.{Three, Call, feeding, closing, told, handed, handedOn, reached, MachineCall}
 use Rattle.demands.specs.Watching.{MachineCalls, Begun}
 use Rattle.demands.specs.Logs.{logWith, courseOf}
@@ -36,11 +34,6 @@ use Rattle.demands.proofs.ExampleTwo.{course-two, course-closed, tells,
 carries-not : (f : Found) (n : ℕ) → f ≡ Fine → Carries f n → ⊥
 unfolding Carries
 carries-not f n e c = subst (λ x. Carries x n) e c
-
-says-fine : (a : Answer) (w : said.Word) → Says a w → foundIn a ≡ Fine
-unfolding Says foundIn
-says-fine (answer.Accepted report) w s = refl
-says-fine (answer.Refused r) w s = absurd s
 
 apart : word.Broken ≡ word.Pending → ⊥
 apart e = let z : _≡_ {A = ℕ} 0 1 = cc in omega arith

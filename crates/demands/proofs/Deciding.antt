@@ -12,15 +12,13 @@ use Rattle.meaning.specs.Horizon.{within, horizon}
 use Rattle.meaning.specs.Words as words
 use Rattle.meaning.specs.Words.{wordOf}
 use Rattle.watcher.specs.declared.state.Word.{Word}
-use Rattle.watcher.specs.declared.state.Refusal.{Refusal}
-use Rattle.watcher.specs.declared.state.Answer.{Answer}
-use Rattle.watcher.specs.declared.state.Answer.the-variants as answer
 use Rattle.watcher.specs.declared.state.End.the-variants as end
 use Rattle.watcher.specs.Rules.{recordsOf}
 use Rattle.watcher.specs.Records.{timeOf, entryOf}
 use Rattle.watcher.specs.Numbers.{saying, verdictFor, Says, decided}
 use Rattle.watcher.specs.Numbers as numbers
 use Rattle.watcher.proofs.Decoded.{Accepted}
+use Rattle.watcher.proofs.Reports.{says-one, says-not}
 use Rattle.demands.specs.Watching.{defined, Call, feeding, told, ending}
 use Rattle.demands.specs.Logs.{lastTime, accepts, logWith, Course, going, over, further, furtherBy, courseOf}
 use Rattle.demands.specs.Logs.{logIn, logOf}
@@ -31,16 +29,6 @@ use Rattle.demands.proofs.Logs.{further-log, last-more, right-onward}
 use Rattle.demands.proofs.Values.{log-holds, log-stays, log-settled}
 use Rattle.demands.proofs.Courses.{ready-after, wrong-stays, early-stays, fed-turn, close-some}
 use Rattle.demands.proofs.Courses.{closed-stays}
-
--- an answer has one word, and a refusal none
-pub says-one : (a : Answer) (v w : Word) → Says a v → Says a w → v ≡ w
-unfolding Says
-says-one (answer.Accepted report) v w p q = sym p ∙ q
-says-one (answer.Refused r) v w p q = absurd p
-
-says-not : (a : Answer) (r : Refusal) (w : Word) → a ≡ answer.Refused r → Says a w → ⊥
-unfolding Says
-says-not a r w e s = subst (λ x. Says x w) e s
 
 -- the word that is told is the meaning's
 unsaid : (w : words.Word) → numbers.wordOf (saying w) ≡ w

@@ -24,7 +24,7 @@ use Rattle.watcher.specs.Limits.{mostParameters}
 use Rattle.watcher.specs.Rules.{recordsOf}
 use Rattle.watcher.specs.Records.{wrongRecord, timeOf, entryOf}
 use Rattle.watcher.specs.Lists.{firstRefusal}
-use Rattle.watcher.specs.Numbers.{saying, verdictFor, Stage, stageOf, Says}
+use Rattle.watcher.specs.Numbers.{saying, verdictFor, Stage, stageOf, lastIn, Says}
 use Rattle.watcher.specs.State.{parametersOf, brokenState}
 use Rattle.watcher.specs.Calls.{wrongArea, isClosed, isFresh, tooEarly, stateTests, feedRefusal, closeRefusal}
 use Rattle.watcher.specs.Calls.{knownNext, runningState, reportOf, feedWith, feedOf, knownNow, closedState}
@@ -215,7 +215,7 @@ module _ (rule signals : List ℕ) (fine : Accepted rule signals) where
   -- closing
   pub close-known : (s : Known (parametersIn rule)) → Lawful rule signals s
       → ClosedInto rule signals s (closeOf (heldKnown rule signals s .state) (heldKnown rule signals s .area))
-  unfolding heldKnown freshState stateIn stageOf isClosed isFresh closedBy knownNow runningState closedState
+  unfolding heldKnown freshState stateIn stageOf isClosed isFresh closedBy knownNow lastIn runningState closedState
       parametersIn
   close-known s ok =
       subst (ClosedInto rule signals s)

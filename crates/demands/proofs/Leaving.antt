@@ -67,9 +67,7 @@ next-long rule ws e (closed v) = length-pastRows (parameters rule) rule [] e non
 
 now-long : (m : ℕ) (ws : List ℕ) (stage : Stage) → length (knownNow m ws stage .past) ≡ m
 unfolding knownNow knownIn pastIn
-now-long m ws fresh = length-tab m (formAt m ws)
-now-long m ws (running last) = length-tab m (formAt m ws)
-now-long m ws (closed v) = length-tab m (formAt m ws)
+now-long m ws stage = length-tab m (formAt m ws)
 
 -- after an accepted start, an accepted record, an accepted closing
 pub start-clean : (rule signals ws : List ℕ) → startRefusal rule signals ws ≡ Fine

@@ -11,8 +11,8 @@ use Rattle.forms.specs.Form.{Form}
 use Rattle.meaning.specs.Rule.{parameters}
 use Rattle.meaning.specs.Words.{Known}
 use Rattle.meaning.specs.Shape.{KnownShape}
-use Rattle.rewriting.specs.Known.{areaOf, pastIn}
-use Rattle.rewriting.specs.Shape.{bitsAbove, notZeroFrom, wrongRows}
+use Rattle.rewriting.specs.Known.{areaOf}
+use Rattle.rewriting.specs.Shape.{bitsAbove, notZeroFrom}
 use Rattle.watcher.specs.declared.state.Watcher.{Watcher}
 use Rattle.watcher.specs.declared.state.Phase.{Phase}
 use Rattle.watcher.specs.declared.state.Phase.the-variants as phase
@@ -22,7 +22,7 @@ use Rattle.watcher.specs.declared.state.Found.the-variants.{Fine, Refused}
 use Rattle.watcher.specs.Limits.{mostRecords, mostSignals, mostParameters, listBytes, areaWords}
 use Rattle.watcher.specs.Rules.{recordsOf}
 use Rattle.watcher.specs.Lists.{listsRefusal}
-use Rattle.watcher.specs.Numbers.{stageOf}
+use Rattle.watcher.specs.Numbers.{stageOf, verdictValue}
 use Rattle.watcher.specs.State.{ruleOf, parametersOf, ruleBytes, listBytesOf, isRefused, startRefuses}
 use Rattle.watcher.specs.State.{notZerosBehind, signalsAbove, wrongInPhase, brokenState}
 use Rattle.watcher.specs.Calls.{startRefusal, padded}
@@ -31,10 +31,8 @@ use Rattle.watcher.proofs.Decoded.{Accepted, fine-tests, tests-fine, length-fin
 use Rattle.watcher.proofs.Decoded.{accepted-list, accepted-few}
 use Rattle.watcher.proofs.Refusing.{length-most}
 use Rattle.watcher.proofs.Testing.{start-refused, start-fine, start-passed}
-use Rattle.watcher.proofs.Breaking.{not-broken}
-use Rattle.rewriting.proofs.Placed.{read-past}
+use Rattle.watcher.proofs.Breaking.{not-broken, fresh-rows, running-rows, closed-rows}
 use Rattle.rewriting.proofs.TidyRows.{bits-fine, unused-fine}
-use Rattle.rewriting.proofs.ShapedRows.{rows-fine}
 use Rattle.demands.proofs.Padding.{take-padded, zeros-padded, rule-padded}
 
 -- start refuses lists that do not pass, whatever the area
@@ -138,11 +136,11 @@ module _ (rule signals : List ℕ) (fine : Accepted rule signals) where
   pub fresh-fine : (remainder : Form (parametersIn rule))
       → brokenState (stateIn rule signals phase.Fresh) (areaOf mostParameters (parametersIn rule) [] remainder)
       ≡ false
-  unfolding stageOf signalsAbove wrongInPhase
+  unfolding stageOf signalsAbove
   fresh-fine remainder =
       broken-in rule signals fine phase.Fresh (areaOf mostParameters m [] remainder) refl
       (bits-fine mostParameters m [] remainder) (unused-fine mostParameters m [] remainder m (omega arith))
-      (unused-fine mostParameters m [] remainder 0 (omega arith))
+      (fresh-rows (stateIn rule signals phase.Fresh) m remainder)
     where
       m : ℕ
       m = parametersIn rule
@@ -151,16 +149,14 @@ module _ (rule signals : List ℕ) (fine : Accepted rule signals) where
       → brokenState (stateIn rule signals (phase.Running (s .last .time) (s .last .signals)))
       (areaOf mostParameters (parametersIn rule) (s .past) (s .remainder))
       ≡ false
-  unfolding stageOf signalsAbove wrongInPhase parametersOf parametersIn
+  unfolding stageOf signalsAbove parametersIn
   running-fine s ok =
-      broken-in rule signals fine p ws
+      broken-in rule signals fine p (areaOf mostParameters m (s .past) (s .remainder))
       (lt-leb (2 ^ recordsOf signals) (s .last .signals) (ok .below))
       (bits-fine mostParameters m (s .past) (s .remainder))
       (unused-fine mostParameters m (s .past) (s .remainder) m (omega (arith, ok .long)))
-      (ap (λ r. wrongRows r (parameters r) (s .last) (pastIn (parameters r) ws)) (rule-in rule signals fine p)
-      ∙ ap (wrongRows (readRule rule) m (s .last))
-      (read-past mostParameters m (s .past) (s .remainder) few few (ok .long))
-      ∙ rows-fine (readRule rule) m (s .last) (s .past) (ok .shape))
+      (running-rows (stateIn rule signals p) (readRule rule) (rule-in rule signals fine p)
+      (few-parameters rule signals fine) s (ok .long) (ok .shape))
     where
       m : ℕ
       m = parameters (readRule rule)
@@ -168,19 +164,19 @@ module _ (rule signals : List ℕ) (fine : Accepted rule signals) where
       p : Phase
       p = phase.Running (s .last .time) (s .last .signals)
 
-      ws : List ℕ
-      ws = areaOf mostParameters m (s .past) (s .remainder)
-
-      few : m ≤ 12
-      few = few-parameters rule signals fine
-
   pub closed-fine : (v : Verdict) (past : List (Form (parametersIn rule))) (remainder : Form (parametersIn rule))
       → length past ≡ parametersIn rule
       → brokenState (stateIn rule signals (phase.Closed v))
       (areaOf mostParameters (parametersIn rule) past remainder)
       ≡ false
-  unfolding stageOf signalsAbove wrongInPhase
+  unfolding stageOf signalsAbove
   closed-fine v past remainder long =
-      broken-in rule signals fine (phase.Closed v) (areaOf mostParameters (parametersIn rule) past remainder) refl
-      (bits-fine mostParameters (parametersIn rule) past remainder)
-      (unused-fine mostParameters (parametersIn rule) past remainder (parametersIn rule) (omega (arith, long))) refl
+      broken-in rule signals fine (phase.Closed v) ws refl (bits-fine mostParameters m past remainder)
+      (unused-fine mostParameters m past remainder m (omega (arith, long)))
+      (closed-rows (stateIn rule signals (phase.Closed v)) ws (verdictValue v))
+    where
+      m : ℕ
+      m = parametersIn rule
+
+      ws : List ℕ
+      ws = areaOf mostParameters m past remainder

@@ -18,7 +18,7 @@ use Rattle.watcher.specs.declared.state.Found.the-variants as found
 use Rattle.watcher.specs.declared.state.Answer.the-variants as answer
 use Rattle.watcher.specs.declared.state.End.the-variants as end
 use Rattle.watcher.specs.Limits.{mostParameters, listBytes, areaWords}
-use Rattle.watcher.specs.Numbers.{verdictFor, Stage, fresh, running, closed, stageOf}
+use Rattle.watcher.specs.Numbers.{verdictFor, Stage, fresh, running, closed, stageOf, lastIn}
 use Rattle.watcher.specs.State.{ruleOf, parametersOf, startRefuses, brokenState}
 use Rattle.watcher.specs.Records.{entryOf}
 use Rattle.watcher.specs.Lists.{Test, firstRefusal}
@@ -92,9 +92,7 @@ module _ (a b : List ℕ) (alike : Alike a b) where
     now-same : parametersOf w ≤ mostParameters → (stage : Stage)
         → knownNow (parametersOf w) a stage ≡ knownNow (parametersOf w) b stage
     unfolding knownNow
-    now-same h fresh = same-known (parametersOf w) h (record { time = 0; signals = 0 })
-    now-same h (running last) = same-known (parametersOf w) h last
-    now-same h (closed v) = same-known (parametersOf w) h (record { time = 0; signals = 0 })
+    now-same h stage = same-known (parametersOf w) h (lastIn stage)
 
     -- an accepted record, and an accepted closing, has the same outcome
     pub feed-same : (bytes : List ℕ) → feedRefusal w bytes a ≡ found.Fine → feedOf w bytes a ≡ feedOf w bytes b

@@ -2,7 +2,7 @@
 -- Assumes nothing.
 use mathlib.Core.Path.{_≡_, refl, sym, ap, ap₂, _∙_}
 use mathlib.Core.Bool.{Bool, true, false, _||_}
-use mathlib.Core.List.{List}
+use mathlib.Core.List.{List, []}
 use Prim.Native.Nat.{ℕ, _*_, _%_, _^_, _≤_, _<_, min}
 use native.Mathlib.Nat.{le-refl}
 use native.Mathlib.Omega.{arith}
@@ -10,13 +10,18 @@ use lib.Dec.{leb}
 use lib.ListN.{length}
 use Rattle.ground.proofs.Bits.{one-shl}
 use Rattle.forms.specs.Area.{rowAt}
-use Rattle.meaning.specs.Rule.{parameters, Entry}
+use Rattle.forms.specs.Form.{Form}
+use Rattle.meaning.specs.Rule.{Node, parameters, Entry}
+use Rattle.meaning.specs.Words.{Known}
+use Rattle.meaning.specs.Shape.{Shaped, KnownShape}
 use Rattle.rewriting.specs.Decode.{ruleIn}
-use Rattle.rewriting.specs.Known.{pastIn}
+use Rattle.rewriting.specs.Known.{pastIn, areaOf}
 use Rattle.rewriting.specs.Plans.{Sound}
 use Rattle.rewriting.specs.Shape.{bitsAbove, notZeroFrom, wrongRows}
 use Rattle.rewriting.proofs.Counting.{counts-all}
-use Rattle.rewriting.proofs.TidyRows.{bits-same, zeros-same, past-same}
+use Rattle.rewriting.proofs.Placed.{read-past}
+use Rattle.rewriting.proofs.TidyRows.{bits-same, zeros-same, past-same, unused-fine}
+use Rattle.rewriting.proofs.ShapedRows.{rows-fine, rows-shaped}
 use Rattle.watcher.specs.declared.state.Watcher.{Watcher}
 use Rattle.watcher.specs.declared.state.Phase.{Phase}
 use Rattle.watcher.specs.declared.state.Phase.the-variants.{Fresh, Running, Closed}
@@ -58,16 +63,36 @@ module _ (w : Watcher) (ws : List ℕ) where
       q ∙ ap (λ n. wrongRows (ruleOf w) n (record { time = time; signals = signals }) (pastIn n ws)) own
       ∙ ap (λ p. wrongInPhase w ws (stageOf p)) (sym e)
 
-  -- of a running state they are those of its last record
-  pub phase-rows : (last : Entry) → stageOf (w .phase) ≡ running last
-      → wrongRows (ruleOf w) (parametersOf w) last (pastIn (parametersOf w) ws)
-      ≡ wrongInPhase w ws (stageOf (w .phase))
-  unfolding wrongInPhase
-  phase-rows last e = ap (wrongInPhase w ws) (sym e)
-
   pub phase-closed : (v : Verdict) → w .phase ≡ Closed v → false ≡ wrongInPhase w ws (stageOf (w .phase))
   unfolding wrongInPhase stageOf
   phase-closed v e = rw e
+
+-- the rows that a state must have, by its stage: a fresh one no past row at all
+pub fresh-rows : (w : Watcher) (m : ℕ) (remainder : Form m)
+    → wrongInPhase w (areaOf mostParameters m [] remainder) fresh ≡ false
+unfolding wrongInPhase
+fresh-rows w m remainder = unused-fine mostParameters m [] remainder 0 (omega arith)
+
+-- a running one past rows of the shape that the rewriting gives them after the last record
+pub running-rows : (w : Watcher) (rule : List Node) → ruleOf w ≡ rule → parameters rule ≤ mostParameters
+    → (s : Known (parameters rule)) → length (s .past) ≡ parameters rule → KnownShape rule (parameters rule) s
+    → wrongInPhase w (areaOf mostParameters (parameters rule) (s .past) (s .remainder)) (running (s .last)) ≡ false
+unfolding wrongInPhase parametersOf
+running-rows w rule own few s long shape =
+    ap (λ r. wrongRows r (parameters r) (s .last) (pastIn (parameters r) ws)) own
+    ∙ ap (wrongRows rule m (s .last)) (read-past mostParameters m (s .past) (s .remainder) few few long)
+    ∙ rows-fine rule m (s .last) (s .past) shape
+  where
+    m : ℕ
+    m = parameters rule
+
+    ws : List ℕ
+    ws = areaOf mostParameters m (s .past) (s .remainder)
+
+-- a closed one any
+pub closed-rows : (w : Watcher) (ws : List ℕ) (b : Bool) → wrongInPhase w ws (closed b) ≡ false
+unfolding wrongInPhase
+closed-rows w ws b = refl
 
 -- what the check of the rows asks for
 pub sound : (w : Watcher) (m : ℕ) → length (w .rule) ≡ listBytes → startRefuses w ≡ false → m ≡ parametersOf w
@@ -139,6 +164,14 @@ module _ (w : Watcher) (ws : List ℕ) where
       let d = neither (bitsAbove mostParameters (parametersOf w) ws) _ (c .1) in
       let e = neither (notZeroFrom mostParameters (parametersOf w) ws) _ (d .1) in
       record { lists = a .0; behind = b .0; word = c .0; bits = d .0; unused = e .0; rows = e .1 }
+
+  -- the past rows of a running one have the shape
+  pub running-shaped : Unbroken w ws → (last : Entry) → stageOf (w .phase) ≡ running last
+      → Shaped (ruleOf w) (parametersOf w) last (pastIn (parametersOf w) ws) (length (ruleOf w))
+  unfolding wrongInPhase
+  running-shaped u last e =
+      rows-shaped (ruleOf w) (parametersOf w) last (pastIn (parametersOf w) ws)
+      (ap (wrongInPhase w ws) (sym e) ∙ u .rows)
 
   pub not-broken : Unbroken w ws → brokenState w ws ≡ false
   not-broken u =

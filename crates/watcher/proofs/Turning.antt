@@ -166,21 +166,13 @@ module _ (p : Phase) where
   unfolding lastIn stageOf
   last-closed v e = rw e
 
--- what is known at the end is read with the last record
-known-now : (m : ℕ) (ws : List ℕ) (p : Phase)
-    → knownNow m ws (stageOf p) ≡ knownIn mostParameters m ws (lastIn (stageOf p))
-unfolding knownNow lastIn stageOf
-known-now m ws phase.Fresh = refl
-known-now m ws (phase.Running t s) = refl
-known-now m ws (phase.Closed v) = refl
-
 -- an accepted closing
 pub finish-done : (w : Watcher) (ws area : List ℕ) (last : Moment) (b : Bool) (v : Verdict) (next : Watcher)
     → entryFor last ≡ lastIn (stageOf (w .phase))
     → (b, area) ≡ closedWith (planOf w) (ruleOf w) (readIn (planOf w) ws last) → v ≡ verdictFor b
     → next ≡ endedState w v
     → _≡_ {A = Ended × List ℕ} (record { answer = end.Closed v; next = next }, area) (closeWith found.Fine w ws)
-unfolding closeWith closedWith closedState endedState parametersOf ruleOf
+unfolding closeWith closedWith closedState endedState parametersOf ruleOf knownNow
 finish-done w ws area last b v next l h e n =
     ap₂ (λ (x : Ended) (y : List ℕ). (x, y))
     (ap₂ (λ (x : Verdict) (y : Watcher). record { answer = end.Closed x; next = y })
@@ -194,7 +186,7 @@ finish-done w ws area last b v next l h e n =
     m = parametersOf w
 
     same : knownIn mostParameters m ws (entryFor last) ≡ knownNow m ws (stageOf (w .phase))
-    same = ap (knownIn mostParameters m ws) l ∙ sym (known-now m ws (w .phase))
+    same = ap (knownIn mostParameters m ws) l
 
     value : b ≡ valueIfLast m rule (knownNow m ws (stageOf (w .phase)))
     value = ap (λ (x : Bool × List ℕ). x .0) h ∙ ap (valueIfLast m rule) same

@@ -26,7 +26,7 @@ use Rattle.watcher.specs.Limits.{mostParameters, listBytes, areaWords}
 use Rattle.watcher.specs.Rules.{recordsOf}
 use Rattle.watcher.specs.Records.{wrongRecord, timeOf, entryOf}
 use Rattle.watcher.specs.Lists.{Test, firstRefusal, listTests}
-use Rattle.watcher.specs.Numbers.{saying, verdictFor, Stage, fresh, running, closed, stageOf}
+use Rattle.watcher.specs.Numbers.{saying, verdictFor, Stage, fresh, running, closed, stageOf, lastIn}
 use Rattle.watcher.specs.State.{ruleOf, parametersOf, startRefuses, brokenState}
 
 -- the work area is not 1,664 words
@@ -167,11 +167,9 @@ feedWith found.Fine w bytes ws =
 unfoldable pub feedOf : Watcher → (bytes ws : List ℕ) → Fed × List ℕ
 feedOf w bytes ws = feedWith (feedRefusal w bytes ws) w bytes ws
 
--- what is known at the end
+-- what is known at the end, by the last record
 unfoldable pub knownNow : (m : ℕ) → List ℕ → Stage → Known m
-knownNow m ws fresh = knownIn mostParameters m ws (record { time = 0; signals = 0 })
-knownNow m ws (running last) = knownIn mostParameters m ws last
-knownNow m ws (closed b) = knownIn mostParameters m ws (record { time = 0; signals = 0 })
+knownNow m ws stage = knownIn mostParameters m ws (lastIn stage)
 
 -- close: the value were this the last record; the past rows stay, and the remainder is that constant
 unfoldable pub closeWith : Found → Watcher → List ℕ → Ended × List ℕ
