@@ -197,8 +197,9 @@ module _ (f : Three) (right : Meets f) where
         → MachineBytes bytes → (w : Word) → Says (told f (reached f rule signals ws calls) bytes) w
         → Told rule signals (courseOf signals calls) bytes w
     told-here begun calls machine bytes p w s =
+        let same = told-is f right rule signals ws begun calls machine bytes p in
         word-told rule signals (accepted begun) (courseOf signals calls)
-        (course-right rule signals (accepted begun) calls) bytes w (subst (λ x. Says x w) (told-is f right rule signals ws begun calls machine bytes p) s)
+        (course-right rule signals (accepted begun) calls) bytes w (subst (λ x. Says x w) same s)
 
     -- calls with a record and more behind them
     machine-more : (calls : List Call) (bytes : List ℕ) (more : List Call) → MachineCalls calls → MachineBytes bytes

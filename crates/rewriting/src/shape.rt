@@ -166,10 +166,10 @@ fn here_at(list: &[u8], plan: Plan, k: usize, first: usize, allowed: usize) -> H
 {
     let record = record_at(list, k);
     Here {
-        record: record,
-        first: first,
+        record,
+        first,
         count: count_of(record),
-        allowed: allowed,
+        allowed,
     }
 }
 

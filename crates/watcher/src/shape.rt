@@ -30,13 +30,10 @@ fn wrong_in_phase(watcher: Watcher, m: usize, area: &[u64]) -> bool
         Phase::Running { time, signals } => {
             let plan = Plan {
                 records: watcher.records,
-                m: m,
+                m,
                 places: Watcher::PARAMETERS,
             };
-            let last = Moment {
-                time: time,
-                signals: signals,
-            };
+            let last = Moment { time, signals };
             wrong_rows(&rule, plan, last, area)
         }
         Phase::Closed(_) => false,
