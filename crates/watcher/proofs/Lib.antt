@@ -5,6 +5,7 @@ pub mod Channels
 pub mod Speed
 pub mod Decoded
 pub mod Places
+pub mod PlaceExamples
 pub mod Checking
 pub mod Refusing
 pub mod HeldLaws

@@ -9,7 +9,7 @@ use Rattle.ground.specs.Fold.{fold, some}
 use Rattle.ground.proofs.Folds.{last-or-less, fold-none, fold-cong, fold-through, some-none, none-at}
 use Rattle.watcher.specs.declared.state.Place.{Place}
 use Rattle.watcher.specs.declared.state.Place.the-variants.{Nowhere, At}
-use Rattle.watcher.specs.Places.{isFound, orElse, firstWhere}
+use Rattle.watcher.specs.Places.{isFound, orElse, firstWhere, Clear, First}
 
 -- what is not found is nowhere, and what is found is not
 pub not-found : (p : Place) → isFound p ≡ false → p ≡ Nowhere
@@ -71,17 +71,6 @@ module _ (i j : ℕ) where
   cell-at : (t : Bool) (a b : ℕ) → cond t (At i j) Nowhere ≡ At a b → (t ≡ true) × (At i j ≡ At a b)
   cell-at true a b e = (refl, e)
   cell-at false a b e = absurd (somewhere a b e)
-
--- no place before record n passes the test
-abbrev pub Clear : (bound : ℕ → ℕ) (test : ℕ → ℕ → Bool) → ℕ → Type 0
-Clear bound test n = (i : ℕ) → i < n → (j : ℕ) → j < bound i → test i j ≡ false
-
--- the test holds at record i and second number j, and nowhere before: at no earlier record, at no lower number here
-pub record First (n : ℕ) (bound : ℕ → ℕ) (test : ℕ → ℕ → Bool) (i j : ℕ) : Type 0 where
-  pub inside : (i < n) × (j < bound i)
-  pub holds : test i j ≡ true
-  pub clear : Clear bound test i
-  pub lower : (b : ℕ) → b < j → test i b ≡ false
 
 module _ (n : ℕ) (bound : ℕ → ℕ) (test : ℕ → ℕ → Bool) where
   abbrev cell : ℕ → ℕ → Place

@@ -23,7 +23,7 @@ unfoldable pub firstRefusal : List Test → Found
 firstRefusal [] = Fine
 firstRefusal (t ∷ ts) = cond (t .holds) (Refused (t .gives)) (firstRefusal ts)
 
--- the refusal of a rule by the place where its layout is first broken, and by the place of its first twins
+-- the refusal by the place of the first broken byte, or of the first twins; the number is the same for every place
 abbrev pub brokenRefusal : (rule : List ℕ) → Place → Refusal
 brokenRefusal rule place = RuleRecord
 

@@ -7,8 +7,9 @@ use native.Mathlib.Omega.{arith}
 use borrow.Author.Count.{below-none, below-more}
 use borrow.Author.Needs.{needs}
 use Rattle.rewriting.specs.Decode.{recordBytes}
+use Rattle.watcher.specs.Places.{Clear}
 use Rattle.watcher.specs.Rules.{recordsOf, byteBreaks, firstBroken}
-use Rattle.watcher.proofs.Places.{Clear, where-at, where-none}
+use Rattle.watcher.proofs.Places.{where-at, where-none}
 use Rattle.watcher.proofs.lists.first_broken.Statement.{statement}
 use Rattle.watcher.proofs.lists.first_broken.Tie as tie
 

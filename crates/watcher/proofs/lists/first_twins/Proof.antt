@@ -9,8 +9,9 @@ use borrow.Author.Count.{below-none, below-more}
 use borrow.Author.Needs.{needs}
 use lib.ListN.{length}
 use Rattle.watcher.specs.declared.state.Place.the-variants.{Nowhere}
+use Rattle.watcher.specs.Places.{Clear}
 use Rattle.watcher.specs.Rules.{sameRecord, firstTwins}
-use Rattle.watcher.proofs.Places.{Clear, where-at, where-none}
+use Rattle.watcher.proofs.Places.{where-at, where-none}
 use Rattle.watcher.proofs.Checking.{record-inside}
 use Rattle.watcher.proofs.lists.first_twins.Statement.{statement}
 use Rattle.watcher.proofs.lists.first_twins.Tie as tie
