@@ -19,14 +19,17 @@ fn hex(bytes: &[u8]) {
     }
 }
 
+// Writes a name and the bytes of a list.
+fn list(name: &[u8], bytes: &[u8]) {
+    text(name);
+    hex(bytes);
+}
+
 // Writes a line with a difference: the case whole, what was said and what was wanted.
 pub(crate) fn difference(rule: &[u8], signals: &[u8], log: &[u8], said: &[u8], wanted: &[u8]) {
-    text(b"DIFFERENCE rule ");
-    hex(rule);
-    text(b" signals ");
-    hex(signals);
-    text(b" log ");
-    hex(log);
+    list(b"DIFFERENCE rule ", rule);
+    list(b" signals ", signals);
+    list(b" log ", log);
     text(b" said ");
     text(said);
     text(b" wanted ");

@@ -10,21 +10,32 @@ use watcher::state::Found;
 use watcher::state::Wait;
 use watcher::state::Watcher;
 
+// Feeds a piece of the log, writes its letter at place n, and answers the next state.
+fn fed(watcher: Watcher, piece: &[u8], n: usize, said: &mut [u8], area: &mut [u64]) -> Watcher {
+    let fed = watcher.feed(piece, area);
+    let answer = fed.answer;
+    put(said, n, answer_letter(answer));
+    let next = fed.next;
+    next
+}
+
+// The letter of closing.
+fn ended(watcher: Watcher, area: &mut [u64]) -> u8 {
+    let ended = watcher.close(area);
+    let answer = ended.answer;
+    end_letter(answer)
+}
+
 // Feeds the log to a watcher that started, closes it, and answers how many letters it wrote.
-fn fed(start: Watcher, log: &[u8], said: &mut [u8], area: &mut [u64]) -> usize {
+fn whole(start: Watcher, log: &[u8], said: &mut [u8], area: &mut [u64]) -> usize {
     let mut watcher = start;
     let count = pieces(log, 16, 12);
     for n in 0..count {
-        let fed = watcher.feed(part(log, 16 * n, 16), area);
-        let answer = fed.answer;
-        put(said, n, answer_letter(answer));
-        let next = fed.next;
+        let next = fed(watcher, part(log, 16 * n, 16), n, said, area);
         watcher = next;
     }
-    let ended = watcher.close(area);
-    let answer = ended.answer;
     put(said, count, b'.');
-    put(said, count + 1, end_letter(answer));
+    put(said, count + 1, ended(watcher, area));
     count + 2
 }
 
@@ -44,7 +55,7 @@ pub(crate) fn run(
             put(said, 0, refusal_letter(refusal));
             1
         }
-        Found::Fine => fed(watcher, log, said, area),
+        Found::Fine => whole(watcher, log, said, area),
     }
 }
 

@@ -17,16 +17,6 @@ use crate::tally::count_difference;
 use crate::tally::count_horizon;
 use crate::tally::count_letters;
 
-// Writes a difference of horizons.
-fn horizon_difference(rule: &[u8], signals: &[u8], said: u64, mine: u64) {
-    text(b"horizon said ");
-    number(said);
-    text(b" wanted ");
-    number(mine);
-    text(b" ");
-    difference(rule, signals, b"", b"", b"");
-}
-
 // The second evaluator's horizon of the lists; never where they are refused.
 fn horizon_wanted(rule: &[u8], signals: &[u8]) -> u64 {
     if lists_refusal(rule, signals) == 0 {
@@ -45,7 +35,7 @@ fn compare_horizon(rule: &[u8], signals: &[u8], area: &mut [u64], tally: &mut [u
         return;
     }
     count_difference(tally);
-    horizon_difference(rule, signals, said, mine);
+    difference(rule, signals, b"", b"another horizon", b"");
 }
 
 // Counts the letters that the watcher said, and writes the case if they do not agree with the wanted ones.

@@ -1,11 +1,11 @@
--- `answers::watch::fed` is safe and ends: its loop counts up to a fixed end.
+-- `answers::watch::whole` is safe and ends: its loop counts up to a fixed end.
 -- Assumes nothing.
 use mathlib.Core.Path.{_≡_}
 use Prim.Native.Nat.{_-_, _≤_}
 use lib.ListN.{length}
 use borrow.Author.Needs.{needs}
-use Rattle.examples.proofs.answers.watch.fed.Statement.{statement}
-use Rattle.examples.proofs.answers.watch.fed.Tie as tie
+use Rattle.examples.proofs.answers.watch.whole.Statement.{statement}
+use Rattle.examples.proofs.answers.watch.whole.Tie as tie
 
 abbrev Inv-loop : tie.InvT-loop
 Inv-loop log said₀ area₀ watcher₀ count n₀ said area watcher n =
@@ -26,14 +26,8 @@ mul-part c = search needs
 part-requires : tie.Need-part-requires Inv-loop μ-loop
 part-requires c κs = search needs
 
-feed-requires : tie.Need-feed-requires Inv-loop μ-loop
-feed-requires c κs = search needs
-
-answer-letter-requires : tie.Need-answer-letter-requires Inv-loop μ-loop
-answer-letter-requires c κs = search needs
-
-put-requires : tie.Need-put-requires Inv-loop μ-loop
-put-requires c κs = search needs
+fed-requires : tie.Need-fed-requires Inv-loop μ-loop
+fed-requires c κs = search needs
 
 add-n : tie.Need-add-n Inv-loop μ-loop
 add-n c = search needs
@@ -44,20 +38,17 @@ loop-less c = search needs
 loop-again : tie.Need-loop-again Inv-loop μ-loop
 loop-again c = search needs
 
-close-requires : tie.Need-close-requires Inv-loop μ-loop
-close-requires c κs = search needs
-
-put-requires-2 : tie.Need-put-requires-2 Inv-loop μ-loop
-put-requires-2 c κs = search needs
+put-requires : tie.Need-put-requires Inv-loop μ-loop
+put-requires c κs = search needs
 
 add-put : tie.Need-add-put Inv-loop μ-loop
 add-put c = search needs
 
-end-letter-requires : tie.Need-end-letter-requires Inv-loop μ-loop
-end-letter-requires c κs = search needs
+ended-requires : tie.Need-ended-requires Inv-loop μ-loop
+ended-requires c κs = search needs
 
-put-requires-3 : tie.Need-put-requires-3 Inv-loop μ-loop
-put-requires-3 c κs = search needs
+put-requires-2 : tie.Need-put-requires-2 Inv-loop μ-loop
+put-requires-2 c κs = search needs
 
 add-result : tie.Need-add-result Inv-loop μ-loop
 add-result c = search needs
@@ -71,8 +62,8 @@ same-length-2 c = search needs
 returns : tie.Need-returns Inv-loop μ-loop
 returns c = search needs
 
-pub fed-spec : {M : Type 1} → statement M
-fed-spec =
+pub whole-spec : {M : Type 1} → statement M
+whole-spec =
     tie.close
     (tie.spec
     Inv-loop
@@ -81,17 +72,14 @@ fed-spec =
     loop-holds
     mul-part
     part-requires
-    feed-requires
-    answer-letter-requires
-    put-requires
+    fed-requires
     add-n
     loop-less
     loop-again
-    close-requires
-    put-requires-2
+    put-requires
     add-put
-    end-letter-requires
-    put-requires-3
+    ended-requires
+    put-requires-2
     add-result
     same-length
     same-length-2
