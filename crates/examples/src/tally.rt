@@ -94,12 +94,16 @@ fn line(name: &[u8], tally: &[u64], place: usize) {
     text(b"\n");
 }
 
-// Writes the lines of words, closings and horizons.
+// Writes the lines of words.
 fn word_lines(tally: &[u64]) {
     line(b"kept", tally, b'K' as usize);
     line(b"broken", tally, b'B' as usize);
     line(b"pending", tally, b'P' as usize);
     line(b"decided before the end", tally, DECIDED);
+}
+
+// Writes the lines of closings and horizons.
+fn closing_lines(tally: &[u64]) {
     line(b"closed kept", tally, CLOSED_KEPT);
     line(b"closed broken", tally, CLOSED_BROKEN);
     line(b"with a horizon", tally, HORIZON);
@@ -126,6 +130,7 @@ fn refusal_lines(tally: &[u64]) {
 // Writes the whole tally.
 pub(crate) fn tally_lines(tally: &[u64]) {
     word_lines(tally);
+    closing_lines(tally);
     refusal_lines(tally);
     line(b"differences", tally, DIFFERENCES);
 }

@@ -39,7 +39,14 @@ fn whole(start: Watcher, log: &[u8], said: &mut [u8], area: &mut [u64]) -> usize
     count + 2
 }
 
-// Starts a watcher, and feeds and closes it where the start is not refused; answers how many letters it wrote.
+// The watcher that starts with the lists; one of zeros where they are refused.
+fn started(rule: &[u8], signals: &[u8], area: &mut [u64]) -> Watcher {
+    let started = Watcher::start(rule, signals, area);
+    let watcher = started.next;
+    watcher
+}
+
+// Starts, feeds and closes a watcher where the start would not be refused; answers how many letters it wrote.
 pub(crate) fn run(
     rule: &[u8],
     signals: &[u8],
@@ -47,22 +54,19 @@ pub(crate) fn run(
     said: &mut [u8],
     area: &mut [u64],
 ) -> usize {
-    let started = Watcher::start(rule, signals, area);
-    let found = started.found;
-    let watcher = started.next;
+    let found = Watcher::start_would_refuse(rule, signals, area);
     match found {
         Found::Refused(refusal) => {
             put(said, 0, refusal_letter(refusal));
             1
         }
-        Found::Fine => whole(watcher, log, said, area),
+        Found::Fine => whole(started(rule, signals, area), log, said, area),
     }
 }
 
 // The horizon of the watcher that starts with the lists; `none` if it has no limit.
 pub(crate) fn horizon_said(rule: &[u8], signals: &[u8], area: &mut [u64], none: u64) -> u64 {
-    let started = Watcher::start(rule, signals, area);
-    let watcher = started.next;
+    let watcher = started(rule, signals, area);
     let wait = watcher.horizon();
     match wait {
         Wait::Forever => none,
