@@ -18,7 +18,7 @@ use Rattle.watcher.specs.declared.state.Refusal.{Refusal}
 use Rattle.watcher.specs.declared.state.Found.{Found}
 use Rattle.watcher.specs.declared.state.Found.the-variants.{Fine, Refused}
 use Rattle.rewriting.specs.Decode.{byteOf}
-use Rattle.watcher.specs.Rules.{recordsOf, wrongLengthIn, wrongLength, usedBytes, uses, fairLimits}
+use Rattle.watcher.specs.Rules.{recordsOf, wrongLengthIn, wrongLength, usedBytes, uses}
 use Rattle.watcher.specs.Rules.{namesRight, usedRight}
 use Rattle.rewriting.specs.Decode.{recordIn, nodeIn, ruleIn}
 use Rattle.watcher.specs.Rules.{byteBreaks, ruleBreaks, hasTwins}
@@ -91,7 +91,6 @@ pub record Laid (list : List ℕ) (k : ℕ) : Type 0 where
   pub signal : byteOf list k 0 ≡ 3 → byteOf list k 1 < 16
   pub left : (byteOf list k 0 ≡ 3 → ⊥) → uses (byteOf list k 0) 1 ≡ true → byteOf list k 1 < k
   pub right : uses (byteOf list k 0) 2 ≡ true → byteOf list k 2 < k
-  pub limits : uses (byteOf list k 0) 4 ≡ true → fairLimits (recordIn list k .interval) ≡ true
 
 -- a used byte of a record that keeps the layout is what the kind wants there
 byte-fine : (list : List ℕ) (k i : ℕ) → Keeps list k → i < 8
@@ -110,7 +109,6 @@ record-fine list k e =
       signal = λ q. room 1 (eq-eqb kind 3 q) (byte-fine list k 1 e (omega arith) (ap (λ x. uses x 1) q));
       left = λ n u. room 1 (ne-eqb kind 3 n) (byte-fine list k 1 e (omega arith) u);
       right = λ u. room 2 (ne-eqb kind 3 (other u)) (byte-fine list k 2 e (omega arith) u);
-      limits = λ u. byte-fine list k 4 e (omega arith) u;
     }
   where
     kind : ℕ

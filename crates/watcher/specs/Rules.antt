@@ -26,6 +26,7 @@ unfoldable pub wrongLengthIn : (size most : ℕ) → List ℕ → Bool
 wrongLengthIn size most list =
     not (eqb (length list % size) 0) || (eqb (length list) 0 || ltb most (recordsIn size list))
 
+-- of a rule list: not a multiple of 8, or not 1 to 16 records
 abbrev pub wrongLength : List ℕ → Bool
 wrongLength list = wrongLengthIn recordBytes mostRecords list
 
@@ -71,6 +72,7 @@ byteBreaks list k i =
 unfoldable pub firstBroken : (size : ℕ) → (breaks : List ℕ → ℕ → ℕ → Bool) → List ℕ → Place
 firstBroken size breaks list = firstWhere (recordsIn size list) (λ k. size) (breaks list)
 
+-- some record of the rule breaks the layout
 abbrev pub ruleBreaks : List ℕ → Bool
 ruleBreaks rule = isFound (firstBroken recordBytes byteBreaks rule)
 
@@ -82,6 +84,7 @@ sameRecord size list i j = every size (λ b. eqb (byteIn size list i b) (byteIn 
 unfoldable pub firstTwins : (size : ℕ) → List ℕ → Place
 firstTwins size list = firstWhere (recordsIn size list) (λ i. i) (sameRecord size list)
 
+-- two records of the rule have the same eight bytes
 abbrev pub hasTwins : List ℕ → Bool
 hasTwins rule = isFound (firstTwins recordBytes rule)
 

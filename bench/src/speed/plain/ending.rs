@@ -2,7 +2,7 @@
 
 use super::interval::inside_now;
 use super::rows::{clear, constant, row_at, store};
-use super::rule::{count_at, row_of, signal, Moment, Plan, Step};
+use super::rule::{count_of, row_of, signal, Moment, Plan, Step};
 use super::table::value;
 use super::walk::step_at;
 
@@ -23,7 +23,7 @@ fn last_setting(list: &[u8], plan: Plan, last: Moment, forms: &[u64], area: &[u6
     let mut first = 0;
     for k in 0..plan.records {
         let mut step = step_at(list, k, first, plan.m, last, None);
-        let count = count_at(list, k);
+        let count = count_of(step.record);
         let mut grown = setting;
         for n in 0..count {
             step.shift = n;

@@ -1,6 +1,7 @@
 //! Which refusal, if any, in document 01's order, by its number.
 
-use super::lists::{bad_signals, has_twins, many_parameters, names_missing, records_of, rule_breaks, wrong_length};
+use super::lists::{bad_signals, first_broken, first_twins, many_parameters};
+use super::lists::{names_missing, records_of, wrong_length};
 use super::readings::{time_of, wrong_record};
 use super::shape::broken_state;
 use super::state::{Phase, Watcher};
@@ -10,10 +11,10 @@ pub fn lists_refusal(rule: &[u8], signals: &[u8]) -> Option<u8> {
     if wrong_length(rule) {
         return Some(1);
     }
-    if rule_breaks(rule) {
+    if first_broken(rule).is_some() {
         return Some(2);
     }
-    if has_twins(rule) {
+    if first_twins(rule).is_some() {
         return Some(3);
     }
     if many_parameters(rule) {

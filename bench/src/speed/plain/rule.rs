@@ -44,23 +44,21 @@ pub fn byte_of(list: &[u8], k: usize, i: usize) -> u8 {
     byte(list, 8 * k + i)
 }
 
-/// How many parameters record `k` has.
-pub fn count_at(list: &[u8], k: usize) -> usize {
-    match byte_of(list, k, 0) {
+/// How many parameters a record has.
+pub fn count_of(record: Record) -> usize {
+    match record.kind {
         1 | 2 | 4 | 5 => 0,
         3 | 6 | 8 => 1,
-        _ => {
-            let (low, high) = (byte_of(list, k, 4), byte_of(list, k, 5));
-            1 + if high == 255 { low } else { high } as usize
-        }
+        _ => 1 + if record.high == 255 { record.low } else { record.high } as usize,
     }
 }
 
 /// How many parameters the first `n` records have.
 pub fn parameters_in(list: &[u8], n: usize) -> usize {
-    (0..n).map(|k| count_at(list, k)).sum()
+    (0..n).map(|k| count_of(record_at(list, k))).sum()
 }
 
+/// Record `k` of the list.
 pub fn record_at(list: &[u8], k: usize) -> Record {
     Record {
         kind: byte_of(list, k, 0),

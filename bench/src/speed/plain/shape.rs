@@ -3,7 +3,7 @@
 use super::bytes::zeros_from;
 use super::refusals::lists_refusal;
 use super::rows::{constant, fits, names, parameter, row_at, Row};
-use super::rule::{count_at, parameters_in, record_at, signal, Moment, Record};
+use super::rule::{count_of, parameters_in, record_at, signal, Moment, Record};
 use super::state::{Phase, Watcher};
 
 /// A record of the rule, its first parameter, how many it has, and the parameters that its rows may name, as bits.
@@ -72,10 +72,11 @@ fn wrong_rows(watcher: &Watcher, m: usize, last: Moment, area: &[u64]) -> bool {
     let mut first = 0;
     let mut allowed = 0;
     for k in 0..watcher.records {
+        let record = record_at(&watcher.rule, k);
         let here = Here {
-            record: record_at(&watcher.rule, k),
+            record,
             first,
-            count: count_at(&watcher.rule, k),
+            count: count_of(record),
             allowed,
         };
         if (0..here.count).any(|n| row_wrong(&here, n, m, last, row_at(area, first + n))) {
