@@ -112,14 +112,6 @@ module _ (w : Watcher) (new : Moment) (ws area : List ℕ) (plan : Plan) (is : p
   unfolding rewrittenOf knownNext stageOf parametersOf ruleOf
   fed-running last e h = rw e (subst (λ p. area ≡ fedWith (w .rule) p last new ws) is h)
 
--- closing
-pub closed-as : (w : Watcher) (last : Moment) (b : Bool) (ws area : List ℕ) (plan : Plan) → plan ≡ planOf w
-    → (b, area) ≡ closedWith plan (ruleFor (w .rule) plan) (readIn plan ws last)
-    → (b, area) ≡ closedWith (planOf w) (ruleOf w) (readIn (planOf w) ws last)
-unfolding ruleOf
-closed-as w last b ws area plan e h =
-    subst (λ p. (b, area) ≡ closedWith p (ruleFor (w .rule) p) (readIn p ws last)) e h
-
 -- an accepted feed
 pub advance-done : (w : Watcher) (bytes ws area : List ℕ) (time signals : ℕ) (report : Report) (next : Watcher)
     → parametersOf w ≤ 12 → time ≡ timeOf bytes → signals ≡ signalWord (w .list) (w .signals) bytes
@@ -166,32 +158,7 @@ module _ (p : Phase) where
   unfolding lastIn stageOf
   last-closed v e = rw e
 
--- an accepted closing
-pub finish-done : (w : Watcher) (ws area : List ℕ) (last : Moment) (b : Bool) (v : Verdict) (next : Watcher)
-    → entryFor last ≡ lastIn (stageOf (w .phase))
-    → (b, area) ≡ closedWith (planOf w) (ruleOf w) (readIn (planOf w) ws last) → v ≡ verdictFor b
-    → next ≡ endedState w v
-    → _≡_ {A = Ended × List ℕ} (record { answer = end.Closed v; next = next }, area) (closeWith found.Fine w ws)
-unfolding closeWith closedWith closedState endedState parametersOf ruleOf knownNow
-finish-done w ws area last b v next l h e n =
-    ap₂ (λ (x : Ended) (y : List ℕ). (x, y))
-    (ap₂ (λ (x : Verdict) (y : Watcher). record { answer = end.Closed x; next = y })
-    (e ∙ ap verdictFor value) (n ∙ ap (endedState w) (e ∙ ap verdictFor value)))
-    (ap (λ (x : Bool × List ℕ). x .1) h ∙ ap (λ s. areaOf mostParameters m (s .past) (close m rule s)) same)
-  where
-    rule : List Node
-    rule = ruleOf w
-
-    m : ℕ
-    m = parametersOf w
-
-    same : knownIn mostParameters m ws (entryFor last) ≡ knownNow m ws (stageOf (w .phase))
-    same = ap (knownIn mostParameters m ws) l
-
-    value : b ≡ valueIfLast m rule (knownNow m ws (stageOf (w .phase)))
-    value = ap (λ (x : Bool × List ℕ). x .0) h ∙ ap (valueIfLast m rule) same
-
--- start, feed and close by what was found
+-- start and feed by what was found
 module _ (rule signals ws : List ℕ) (f : Found) (is : f ≡ startRefusal rule signals ws) where
   pub start-refused-with : (r : Refusal) (zeros : Watcher) → f ≡ found.Refused r → zeros ≡ zeroState
       → _≡_ {A = Started × List ℕ} (record { found = found.Refused r; next = zeros }, ws) (startOf rule signals ws)
@@ -215,14 +182,3 @@ module _ (w : Watcher) (bytes ws : List ℕ) (f : Found) (is : f ≡ feedRefusal
       → (r, area) ≡ feedOf w bytes ws
   unfolding feedOf
   feed-fine-with r area e h = h ∙ ap (λ g. feedWith g w bytes ws) (sym e ∙ is)
-
-module _ (w : Watcher) (ws : List ℕ) (f : Found) (is : f ≡ closeRefusal w ws) where
-  pub close-refused-with : (r : Refusal) → f ≡ found.Refused r
-      → _≡_ {A = Ended × List ℕ} (record { answer = end.Refused r; next = w }, ws) (closeOf w ws)
-  unfolding closeOf closeWith
-  close-refused-with r e = ap (λ g. closeWith g w ws) (sym e ∙ is)
-
-  pub close-fine-with : (r : Ended) (area : List ℕ) → f ≡ found.Fine → (r, area) ≡ closeWith found.Fine w ws
-      → (r, area) ≡ closeOf w ws
-  unfolding closeOf
-  close-fine-with r area e h = h ∙ ap (λ g. closeWith g w ws) (sym e ∙ is)
