@@ -17,7 +17,7 @@ use Rattle.watcher.specs.Calls.{freshState, runningState, closedState, waitOf}
 use Rattle.watcher.specs.Machine.{MachineBytes}
 use Rattle.watcher.specs.Runs.{Held}
 use Rattle.watcher.proofs.Decoded.{Accepted}
-use Rattle.demands.specs.Watching.{Three, Meets, defined, closing, told, ending, handed, reached}
+use Rattle.demands.specs.Watching.{Functions, Meets, defined, closing, told, ending, handed, reached}
 use Rattle.demands.specs.Watching.{MachineCall}
 use Rattle.demands.specs.Logs.{lastTime, Course, going, over, courseOf, logIn}
 use Rattle.demands.specs.Rewritten.{readRule, parametersIn, heldKnown, heldAfter, heldClosed, heldIn}
@@ -59,7 +59,7 @@ module _ (rule signals : List ℕ) (fine : Accepted rule signals) where
   wait-held (going (e ∷ es)) = wait-in (phase.Running _ _)
   wait-held (over e es) = wait-in (phase.Closed _)
 
-module _ (f : Three) (right : Meets f) where
+module _ (f : Functions) (right : Meets f) where
   pub own-work : OwnWorkIsFine f
   unfolding heldIn logIn foundIn foundAt Carries refusalNumber MachineCall
   own-work rule signals ws begun calls machine =

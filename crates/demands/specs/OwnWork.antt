@@ -12,13 +12,13 @@ use Rattle.watcher.specs.State.{brokenState}
 use Rattle.watcher.specs.Calls.{wrongArea, waitOf}
 use Rattle.watcher.specs.Machine.{MachineBytes}
 use Rattle.watcher.specs.Numbers.{foundIn, foundAt}
-use Rattle.demands.specs.Watching.{Three, Call, closing, told, ending, handed, reached, MachineCalls, Begun}
+use Rattle.demands.specs.Watching.{Functions, Call, closing, told, ending, handed, reached, MachineCalls, Begun}
 use Rattle.demands.specs.Logs.{lastTime, going, over, courseOf}
 use Rattle.demands.specs.Rewritten.{readRule}
 use Rattle.demands.specs.Tables.{Carries}
 
 -- after start and any calls
-pub record OwnWork (f : Three) (rule signals ws : List ℕ) (calls : List Call) : Type 0 where
+pub record OwnWork (f : Functions) (rule signals ws : List ℕ) (calls : List Call) : Type 0 where
   -- refusals 7 and 12 are not given
   pub whole : wrongArea (reached f rule signals ws calls .area) ≡ false
   pub sound : brokenState (reached f rule signals ws calls .state) (reached f rule signals ws calls .area) ≡ false
@@ -42,7 +42,7 @@ pub record OwnWork (f : Three) (rule signals ws : List ℕ) (calls : List Call) 
   pub waits : waitOf (reached f rule signals ws calls .state) ≡ horizon (readRule rule)
 
 -- of every run
-abbrev pub OwnWorkIsFine : Three → Type 0
+abbrev pub OwnWorkIsFine : Functions → Type 0
 OwnWorkIsFine f =
     (rule signals ws : List ℕ) → Begun f rule signals ws → (calls : List Call) → MachineCalls calls
     → OwnWork f rule signals ws calls
