@@ -59,7 +59,8 @@ module _ (f : Functions) (right : Meets f) where
 
     asking-agrees : AskingAgrees f rule signals ws
     asking-agrees calls bytes b d more machine log c =
-        asks-ending (d .begun) (calls ++ (feeding bytes ∷ more)) (machine-more calls bytes more (d .called) (d .fed) machine)
+        asks-ending (d .begun) (calls ++ (feeding bytes ∷ more))
+        (machine-more calls bytes more (d .called) (d .fed) machine)
         ∙ demanded f right .third .agrees rule signals ws calls bytes b d more machine log c
 
   pub asking-promised : Asking f

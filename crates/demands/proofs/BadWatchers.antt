@@ -18,8 +18,8 @@ use Rattle.watcher.specs.Numbers.{saying, verdictFor, Says, foundAt, decided}
 use Rattle.watcher.specs.Calls.{startWith}
 use Rattle.watcher.specs.Runs.{Held}
 use Rattle.watcher.proofs.Reports.{says-fine}
-use Rattle.demands.specs.Watching.{Functions, Call, feeding, closing, told, handed, handedOn, reached, MachineCall}
-use Rattle.demands.specs.Watching.{MachineCalls, Begun}
+use Rattle.demands.specs.Watching.{Functions, Call, feeding, closing, told, handed, handedOn, reached}
+use Rattle.demands.specs.Watching.{MachineCall, MachineCalls, Begun}
 use Rattle.demands.specs.Logs.{logWith, furtherBy, courseOf}
 use Rattle.demands.specs.Rewritten.{heldIn}
 use Rattle.demands.specs.Demands.{Demands, Decides}

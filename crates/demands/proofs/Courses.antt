@@ -28,7 +28,8 @@ use Rattle.watcher.specs.Calls.{wrongArea, isClosed, isFresh, tooEarly, startOf
 use Rattle.watcher.specs.Calls.{freshState, runningState, closedState, feedRefusal, closeRefusal}
 use Rattle.watcher.specs.Runs.{Held}
 use Rattle.watcher.proofs.Decoded.{Accepted}
-use Rattle.demands.specs.Watching.{defined, Call, feeding, asking, closing, told, ending, handed, handedOn, reached}
+use Rattle.demands.specs.Watching.{defined, Call, feeding, asking, closing, told, ending, handed, handedOn}
+use Rattle.demands.specs.Watching.{reached}
 use Rattle.demands.specs.Logs.{lastTime, accepts, logWith, Course, going, over, further, furtherBy, courseOf}
 use Rattle.demands.specs.Logs.{logIn}
 use Rattle.demands.specs.Rewritten.{readRule, parametersIn, heldKnown, heldAfter, heldClosed, heldIn, wordAfter}

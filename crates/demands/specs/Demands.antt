@@ -94,11 +94,12 @@ pub record Demand2 (f : Functions) : Type 0 where
   pub wind : WindIsExact
 
 -- Demand 3, of a run in which a record gets the word kept (broken).
-pub record Decides (f : Functions) (rule signals ws : List ℕ) (calls : List Call) (bytes : List ℕ) (b : Bool) : Type 0 where
-  pub begun : Begun f rule signals ws
-  pub called : MachineCalls calls
-  pub fed : MachineBytes bytes
-  pub says : Says (told f (reached f rule signals ws calls) bytes) (decided b)
+pub record Decides (f : Functions) (rule signals ws : List ℕ) (calls : List Call) (bytes : List ℕ) (b : Bool) : Type 0
+  where
+    pub begun : Begun f rule signals ws
+    pub called : MachineCalls calls
+    pub fed : MachineBytes bytes
+    pub says : Says (told f (reached f rule signals ws calls) bytes) (decided b)
 
 module _ (f : Functions) (rule signals ws : List ℕ) where
   -- every continuation with times that never fall, and stopping there, makes the rule true (false) of the whole log
