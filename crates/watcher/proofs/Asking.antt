@@ -23,6 +23,7 @@ use Rattle.watcher.specs.Limits.{mostParameters}
 use Rattle.watcher.specs.Numbers.{verdictFor, verdictValue, foundAt, stageOf, lastIn}
 use Rattle.watcher.specs.State.{ruleOf, parametersOf}
 use Rattle.watcher.specs.Calls.{closedState, knownNow, closeRefusal, valueNow, askWith, askOf, closeWith, closeOf}
+use Rattle.watcher.specs.Clauses.{AskClause}
 use Rattle.watcher.specs.inside.Turns.{planOf, endedState, closeBy}
 
 -- a verdict says the value that it was made for
@@ -48,15 +49,16 @@ module _ (w : Watcher) (ws : List ℕ) where
 
   -- asking by what was found
   module _ (f : Found) (is : f ≡ closeRefusal w ws) where
-    pub ask-refused-with : (r : Refusal) → f ≡ found.Refused r → end.Refused r ≡ askOf w ws
+    pub ask-refused-with : (r : Refusal) → f ≡ found.Refused r
+        → AskClause w ws (end.Refused r, ws)
     unfolding askOf askWith
-    ask-refused-with r e = ap (λ g. askWith g w ws) (sym e ∙ is)
+    ask-refused-with r e = ap (λ g. (askWith g w ws, ws)) (sym e ∙ is)
 
     pub ask-fine-with : (b : Bool) (v : Verdict) → f ≡ found.Fine → b ≡ valueNow w ws → v ≡ verdictFor b
-        → end.Closed v ≡ askOf w ws
+        → AskClause w ws (end.Closed v, ws)
     unfolding askOf askWith
     ask-fine-with b v e h s =
-        ap (λ x. end.Closed x) (s ∙ ap verdictFor h) ∙ ap (λ g. askWith g w ws) (sym e ∙ is)
+        ap (λ x. (end.Closed x, ws)) (s ∙ ap verdictFor h) ∙ ap (λ g. (askWith g w ws, ws)) (sym e ∙ is)
 
   -- what asking answers says what was found, and is what closing answers
   pub ask-found : foundAt (askOf w ws) ≡ closeRefusal w ws
@@ -99,15 +101,18 @@ module _ (w : Watcher) (ws : List ℕ) where
       ap₂ (λ (x : Ended) (y : List ℕ). (x, y)) (ap (λ (x : Watcher). record { answer = end.Closed v; next = x }) n)
       (h ∙ ap (λ x. closedWith (planOf w) x ws) e)
 
-  module _ (a : End) (is : a ≡ askOf w ws) where
+  module _ (a : End) (area : List ℕ) (asked : AskClause w ws (a, area)) where
+    is : a ≡ askOf w ws
+    is = ap (λ (o : End × List ℕ). o .0) asked
+
     pub close-refused-with : (r : Refusal) → a ≡ end.Refused r
         → _≡_ {A = Ended × List ℕ} (record { answer = end.Refused r; next = w }, ws) (closeOf w ws)
     unfolding closeBy
     close-refused-with r e = ap (closeBy w ws) (sym e ∙ is) ∙ sym close-by
 
-    pub close-fine-with : (v : Verdict) (r : Ended) (area : List ℕ) → a ≡ end.Closed v
-        → (r, area) ≡ closeBy w ws (end.Closed v) → (r, area) ≡ closeOf w ws
-    close-fine-with v r area e h = h ∙ ap (closeBy w ws) (sym e ∙ is) ∙ sym close-by
+    pub close-fine-with : (v : Verdict) (r : Ended) (out : List ℕ) → a ≡ end.Closed v
+        → (r, out) ≡ closeBy w ws (end.Closed v) → (r, out) ≡ closeOf w ws
+    close-fine-with v r out e h = h ∙ ap (closeBy w ws) (sym e ∙ is) ∙ sym close-by
 
     -- a log that can be closed is not refused
     pub ask-fine : (v : Verdict) → a ≡ end.Closed v → found.Fine ≡ closeRefusal w ws

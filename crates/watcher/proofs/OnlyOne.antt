@@ -78,7 +78,7 @@ pub only-feed : (w : Watcher) (bytes ws : List ℕ) (o o′ : Fed × List ℕ) �
     → FeedClause w bytes ws o′ → o ≡ o′
 only-feed w bytes ws = only-one _
 
-pub only-ask : (w : Watcher) (ws : List ℕ) (o o′ : End) → AskClause w ws o → AskClause w ws o′ → o ≡ o′
+pub only-ask : (w : Watcher) (ws : List ℕ) (o o′ : End × List ℕ) → AskClause w ws o → AskClause w ws o′ → o ≡ o′
 only-ask w ws = only-one _
 
 pub only-close : (w : Watcher) (ws : List ℕ) (o o′ : Ended × List ℕ) → CloseClause w ws o → CloseClause w ws o′

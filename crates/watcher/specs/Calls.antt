@@ -177,7 +177,7 @@ unfoldable pub valueNow : Watcher → List ℕ → Bool
 valueNow w ws =
     valueIfLast (parametersOf w) (ruleOf w) (knownNow (parametersOf w) ws (stageOf (w .phase)))
 
--- ask: the verdict that says this value; state and area are lent to read only
+-- ask: the verdict that says this value
 unfoldable pub askWith : Found → Watcher → List ℕ → End
 askWith (found.Refused r) w ws = end.Refused r
 askWith found.Fine w ws = end.Closed (verdictFor (valueNow w ws))

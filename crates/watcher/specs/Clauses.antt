@@ -84,9 +84,9 @@ WouldRefuseClause w bytes ws o = o ≡ feedRefusal w bytes ws
 abbrev pub FeedClause : Watcher → (bytes ws : List ℕ) → Fed × List ℕ → Type 0
 FeedClause w bytes ws o = o ≡ feedOf w bytes ws
 
--- asking how the log would end now
-abbrev pub AskClause : Watcher → (ws : List ℕ) → End → Type 0
-AskClause w ws o = o ≡ askOf w ws
+-- asking how the log would end now; the area is left as it was
+abbrev pub AskClause : Watcher → (ws : List ℕ) → End × List ℕ → Type 0
+AskClause w ws o = o ≡ (askOf w ws, ws)
 
 -- closing the log
 abbrev pub CloseClause : Watcher → (ws : List ℕ) → Ended × List ℕ → Type 0

@@ -193,7 +193,7 @@ impl Watcher {
 
     // How the log ends, were this the last record.
     pub fn ask(self, area: &[u64]) -> End
-        ensures { λ r. ⌜ AskClause self (now (area .entry)) r ⌝ }
+        ensures { λ r. ⌜ AskClause self (now (area .entry)) (r, now (area .exit)) ⌝ }
     {
         let found = close_refusal(self, area);
         match found {

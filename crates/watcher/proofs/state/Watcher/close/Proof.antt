@@ -21,13 +21,13 @@ finish-requires c κs =
     let c₂ = c .before .before in
     let c₄ = c₂ .before .before in
     close-passed _ _ (λ i. c₄ .before .before .slice-known .given i .fits) _
-    (ask-fine _ _ _ (c₄ .ask .ensures) _ (c₂ .end2 .given .1)) refl
+    (ask-fine _ _ _ _ (c₄ .ask .ensures) _ (c₂ .end2 .given .1)) refl
 
 same-length : tie.Need-same-length
 same-length c = search needs
 
 returns : tie.Need-returns
-returns c = close-refused-with _ _ _ (c .before .before .before .ask .ensures) _ (c .before .end .given .1)
+returns c = close-refused-with _ _ _ _ (c .before .before .before .ask .ensures) _ (c .before .end .given .1)
 
 same-length-2 : tie.Need-same-length-2
 same-length-2 c = search needs
@@ -36,7 +36,7 @@ returns-2 : tie.Need-returns-2
 returns-2 c =
     let c₂ = c .before .before in
     let c₅ = c₂ .before .before .before in
-    close-fine-with _ _ _ (c₅ .before .before .ask .ensures) _ _ _ (c₅ .end2 .given .1) (c₂ .finish .ensures)
+    close-fine-with _ _ _ _ (c₅ .before .before .ask .ensures) _ _ _ (c₅ .end2 .given .1) (c₂ .finish .ensures)
 
 pub close-spec : {M : Type 1} → statement M
 close-spec =
