@@ -19,7 +19,8 @@ pub only-feed : (bytes piece ws : List ℕ) (o o′ : ℕ × List ℕ × List �
     → FeedClause bytes piece ws o′ → o ≡ o′
 only-feed bytes piece ws = only-one _
 
-pub only-ask : (bytes ws : List ℕ) (o o′ : ℕ) → AskClause bytes ws o → AskClause bytes ws o′ → o ≡ o′
+pub only-ask : (bytes ws : List ℕ) (o o′ : ℕ × List ℕ × List ℕ) → AskClause bytes ws o → AskClause bytes ws o′
+    → o ≡ o′
 only-ask bytes ws = only-one _
 
 pub only-close : (bytes ws : List ℕ) (o o′ : ℕ × List ℕ × List ℕ) → CloseClause bytes ws o → CloseClause bytes ws o′

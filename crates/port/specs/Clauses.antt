@@ -17,9 +17,9 @@ WouldRefuseClause bytes piece ws o = o ≡ refusalBytes bytes piece ws
 abbrev pub FeedClause : (bytes piece ws : List ℕ) → ℕ × List ℕ × List ℕ → Type 0
 FeedClause bytes piece ws o = o ≡ feedBytes bytes piece ws
 
--- asking how the log would end now
-abbrev pub AskClause : (bytes ws : List ℕ) → ℕ → Type 0
-AskClause bytes ws o = o ≡ askBytes bytes ws
+-- asking how the log would end now; the state's bytes and the work area are left as they were
+abbrev pub AskClause : (bytes ws : List ℕ) → ℕ × List ℕ × List ℕ → Type 0
+AskClause bytes ws o = o ≡ (askBytes bytes ws, bytes, ws)
 
 -- closing the log: the code, the state's bytes and the work area
 abbrev pub CloseClause : (bytes ws : List ℕ) → ℕ × List ℕ × List ℕ → Type 0

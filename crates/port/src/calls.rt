@@ -87,7 +87,7 @@ pub extern "C" fn hunchcold_feed(bytes: &mut [u8], piece: &[u8], area: &mut [u64
 // How the log ends, were this the last record.
 #[no_mangle]
 pub extern "C" fn hunchcold_ask(bytes: &[u8], area: &[u64]) -> u8
-    ensures { λ r. ⌜ AskClause (now (bytes .entry)) (now (area .entry)) r ⌝ }
+    ensures { λ r. ⌜ AskClause (now (bytes .entry)) (now (area .entry)) (r, now (bytes .exit), now (area .exit)) ⌝ }
 {
     if bytes.len() != STATE_BYTES {
         return STATE_LENGTH;

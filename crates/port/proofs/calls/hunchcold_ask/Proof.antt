@@ -25,7 +25,7 @@ returns-2 c =
     let told = c .before in
     let ask = told .before in
     let read = ask .before in
-    ask-right _ _ _ _ _ _ (read .before .if1 .left) (read .read-state .ensures) (ask .ask .ensures)
+    ask-right _ _ _ _ _ _ _ (read .before .if1 .left) (read .read-state .ensures) (ask .ask .ensures)
     (told .told-at .ensures) (c .told-code .ensures)
 
 pub hunchcold-ask-spec : {M : Type 1} → statement M
