@@ -12,10 +12,11 @@ use Rattle.watcher.specs.declared.state.Started.{Started}
 use Rattle.watcher.specs.Limits.{logBytes}
 use Rattle.watcher.specs.Records.{timeOf}
 use Rattle.watcher.specs.State.{isRefused}
-use Rattle.watcher.specs.Calls.{startOf, feedOf, closeOf}
+use Rattle.watcher.specs.Calls.{startOf, feedOf, askOf}
 use Rattle.lines.specs.Text.{foundLine, answerLine, endLine}
-use Rattle.lines.specs.Lines.{placed, turned, startedLine, startLine, fedLine, feedLine, endedLine, closeLine}
+use Rattle.lines.specs.Lines.{placed, startedLine, startLine, fedLine, feedLine, askLine}
 use Rattle.watcher.specs.Runs.{piecesIn, pieces}
+use Rattle.watcher.proofs.Asking.{ask-as-close}
 use Rattle.watcher.proofs.Machines.{take-small, drop-small}
 use Rattle.lines.specs.Listing.{logLines, listingFrom, listingOn, lineBytes}
 use Rattle.lines.specs.Listing.{printedLog, printed}
@@ -47,9 +48,9 @@ read-back out text h =
 module _ (out : List ℕ) (room : lineBytes ≤ length out) where
   log-printed : (w : Watcher) (ws : List ℕ) (parts : List (List ℕ)) → AllBytes parts
       → printedLog w ws out parts ≡ logLines w ws parts
-  unfolding printedLog logLines feedLine fedLine closeLine endedLine turned
+  unfolding printedLog logLines feedLine fedLine askLine
   log-printed w ws [] h =
-      read-back out (endLine (closeOf w ws .0 .answer)) (omega (arith, end-fits (closeOf w ws .0 .answer)))
+      read-back out (endLine (askOf w ws)) (omega (arith, end-fits (askOf w ws))) ∙ ap endLine (ask-as-close w ws)
   log-printed w ws (piece ∷ rest) h =
       ap₂ _++_
       (read-back out (answerLine (timeOf piece) (feedOf w piece ws .0 .answer))

@@ -7,12 +7,12 @@ use Prim.Native.Nat.{ℕ}
 use Rattle.watcher.specs.declared.state.Watcher.{Watcher}
 use Rattle.watcher.specs.declared.state.Started.{Started}
 use Rattle.watcher.specs.declared.state.Fed.{Fed}
-use Rattle.watcher.specs.declared.state.Ended.{Ended}
+use Rattle.watcher.specs.declared.state.End.{End}
 use Rattle.watcher.specs.Records.{timeOf}
 use Rattle.watcher.specs.State.{isRefused}
-use Rattle.watcher.specs.Calls.{startOf, feedOf, closeOf}
+use Rattle.watcher.specs.Calls.{startOf, feedOf, askOf}
 use Rattle.lines.specs.Text.{foundLine, answerLine, endLine}
-use Rattle.lines.specs.Lines.{turned, startedLine, startLine, fedLine, feedLine, endedLine, closeLine}
+use Rattle.lines.specs.Lines.{placed, startedLine, startLine, fedLine, feedLine, askLine}
 use Rattle.lines.specs.inside.Puts.{putText}
 use Rattle.lines.proofs.Texts.{text-placed}
 
@@ -29,16 +29,14 @@ start-turned rule signals ws out s ws′ ready n out′ e r h =
 pub feed-turned : (w : Watcher) (piece ws out : List ℕ) (f : Fed) (ws′ : List ℕ) (time n : ℕ) (out′ : List ℕ)
     → (f, ws′) ≡ feedOf w piece ws → time ≡ timeOf piece → (n, out′) ≡ putText (0, out) (answerLine time (f .answer))
     → (record { next = f .next; length = n }, ws′, out′) ≡ feedLine w piece ws out
-unfolding feedLine fedLine turned
+unfolding feedLine fedLine
 feed-turned w piece ws out f ws′ time n out′ e t h =
-    ap (turned (f .next) ws′)
+    ap (λ line. (record { next = f .next; length = line .0 }, ws′, line .1))
     (text-placed (n, out′) out (answerLine (timeOf piece) (f .answer))
     (h ∙ ap (λ x. putText (0, out) (answerLine x (f .answer))) t))
     ∙ ap (fedLine piece out) e
 
-pub close-turned : (w : Watcher) (ws out : List ℕ) (d : Ended) (ws′ : List ℕ) (n : ℕ) (out′ : List ℕ)
-    → (d, ws′) ≡ closeOf w ws → (n, out′) ≡ putText (0, out) (endLine (d .answer))
-    → (record { next = d .next; length = n }, ws′, out′) ≡ closeLine w ws out
-unfolding closeLine endedLine turned
-close-turned w ws out d ws′ n out′ e h =
-    ap (turned (d .next) ws′) (text-placed (n, out′) out (endLine (d .answer)) h) ∙ ap (endedLine out) e
+pub ask-turned : (w : Watcher) (ws out : List ℕ) (a : End) (o : ℕ × List ℕ) → a ≡ askOf w ws
+    → o ≡ putText (0, out) (endLine a) → o ≡ askLine w ws out
+unfolding askLine
+ask-turned w ws out a o e h = text-placed o out (endLine a) h ∙ ap (λ x. placed out (endLine x)) e

@@ -6,10 +6,9 @@ use lib.ListN.{length, take, drop}
 use Rattle.watcher.specs.declared.state.Watcher.{Watcher}
 use Rattle.watcher.specs.declared.state.Started.{Started}
 use Rattle.watcher.specs.declared.state.Fed.{Fed}
-use Rattle.watcher.specs.declared.state.Ended.{Ended}
 use Rattle.watcher.specs.Records.{timeOf}
 use Rattle.watcher.specs.State.{isRefused}
-use Rattle.watcher.specs.Calls.{startOf, feedOf, closeOf}
+use Rattle.watcher.specs.Calls.{startOf, feedOf, askOf}
 use Rattle.lines.specs.declared.turns.Opened.{Opened}
 use Rattle.lines.specs.declared.turns.Turn.{Turn}
 use Rattle.lines.specs.Text.{foundLine, answerLine, endLine}
@@ -17,10 +16,6 @@ use Rattle.lines.specs.Text.{foundLine, answerLine, endLine}
 -- a text at the beginning of a buffer: what does not fit is cut off, and what is behind stays
 unfoldable pub placed : (out text : List ℕ) → ℕ × List ℕ
 placed out text = (min (length text) (length out), take (length out) text ++ drop (length text) out)
-
--- a line after a call: the next state, how many bytes the line has; then the area, and the buffer
-unfoldable pub turned : Watcher → List ℕ → ℕ × List ℕ → Turn × List ℕ × List ℕ
-turned w ws line = (record { next = w; length = line .0 }, ws, line .1)
 
 -- start: a line where it is refused, and whether it is ready
 unfoldable pub startedLine : (out : List ℕ) → Started × List ℕ → Opened × List ℕ × List ℕ
@@ -36,14 +31,13 @@ startLine rule signals ws out = startedLine out (startOf rule signals ws)
 
 -- feed a record
 unfoldable pub fedLine : (piece out : List ℕ) → Fed × List ℕ → Turn × List ℕ × List ℕ
-fedLine piece out f = turned (f .0 .next) (f .1) (placed out (answerLine (timeOf piece) (f .0 .answer)))
+fedLine piece out f =
+    let line : ℕ × List ℕ = placed out (answerLine (timeOf piece) (f .0 .answer)) in
+    (record { next = f .0 .next; length = line .0 }, f .1, line .1)
 
 unfoldable pub feedLine : Watcher → (piece ws out : List ℕ) → Turn × List ℕ × List ℕ
 feedLine w piece ws out = fedLine piece out (feedOf w piece ws)
 
--- close the log
-unfoldable pub endedLine : (out : List ℕ) → Ended × List ℕ → Turn × List ℕ × List ℕ
-endedLine out e = turned (e .0 .next) (e .1) (placed out (endLine (e .0 .answer)))
-
-unfoldable pub closeLine : Watcher → (ws out : List ℕ) → Turn × List ℕ × List ℕ
-closeLine w ws out = endedLine out (closeOf w ws)
+-- ask how the log ends: how many bytes the line has, and the buffer
+unfoldable pub askLine : Watcher → (ws out : List ℕ) → ℕ × List ℕ
+askLine w ws out = placed out (endLine (askOf w ws))

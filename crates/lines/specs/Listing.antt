@@ -11,7 +11,7 @@ use Rattle.watcher.specs.State.{isRefused}
 use Rattle.watcher.specs.Calls.{startOf, feedOf, closeOf}
 use Rattle.watcher.specs.Runs.{pieces}
 use Rattle.lines.specs.Text.{foundLine, answerLine, endLine}
-use Rattle.lines.specs.Lines.{startLine, feedLine, closeLine}
+use Rattle.lines.specs.Lines.{startLine, feedLine, askLine}
 
 -- a line for each piece that is fed, and one for the end
 unfoldable pub logLines : Watcher → (ws : List ℕ) → List (List ℕ) → List ℕ
@@ -38,7 +38,7 @@ lineBytes = 32
 
 -- what the functions print, called one after another, each with a buffer that is the same at its entry
 unfoldable pub printedLog : Watcher → (ws out : List ℕ) → List (List ℕ) → List ℕ
-printedLog w ws out [] = take (closeLine w ws out .0 .length) (closeLine w ws out .2)
+printedLog w ws out [] = take (askLine w ws out .0) (askLine w ws out .1)
 printedLog w ws out (piece ∷ rest) =
     take (feedLine w piece ws out .0 .length) (feedLine w piece ws out .2)
     ++ printedLog (feedLine w piece ws out .0 .next) (feedLine w piece ws out .1) out rest

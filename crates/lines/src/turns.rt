@@ -1,10 +1,10 @@
-// Start, feed and close, each with the line that it prints.
+// Start, feed and ask, each with the line that it prints.
 use crate::text::put_answer;
 use crate::text::put_end;
 use crate::text::put_found;
 use watcher::readings::time_of;
 use watcher::state::Watcher;
-ghost use Rattle.lines.specs.Clauses.{LineBytesClause, StartLineClause, FeedLineClause, CloseLineClause};
+ghost use Rattle.lines.specs.Clauses.{LineBytesClause, StartLineClause, FeedLineClause, AskLineClause};
 
 // Bytes that no line has more of.
 pub const LINE_BYTES: usize = 32;
@@ -16,7 +16,7 @@ pub struct Opened {
     pub length: usize,
 }
 
-// What a turn hands back: the next state, and how many bytes its line has.
+// What feeding hands back: the next state, and how many bytes its line has.
 pub struct Turn {
     pub next: Watcher,
     pub length: usize,
@@ -57,14 +57,9 @@ pub fn feed_line(watcher: Watcher, piece: &[u8], area: &mut [u64], out: &mut [u8
     Turn { next, length }
 }
 
-// Close the log; the line is its verdict, or the refusal.
-pub fn close_line(watcher: Watcher, area: &mut [u64], out: &mut [u8]) -> Turn
-    ensures { λ r. ⌜ CloseLineClause watcher (now (area .entry)) (now (out .entry))
-        (r, now (area .exit), now (out .exit)) ⌝ }
+// Ask how the log ends; the line is the verdict, or the refusal.
+pub fn ask_line(watcher: Watcher, area: &[u64], out: &mut [u8]) -> usize
+    ensures { λ r. ⌜ AskLineClause watcher (now (area .entry)) (now (out .entry)) (r, now (out .exit)) ⌝ }
 {
-    let ended = watcher.close(area);
-    let answer = ended.answer;
-    let next = ended.next;
-    let length = put_end(out, 0, answer);
-    Turn { next, length }
+    put_end(out, 0, watcher.ask(area))
 }
