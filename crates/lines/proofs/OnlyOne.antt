@@ -1,6 +1,7 @@
 -- The clause of each public function, `specs/Clauses.antt`, leaves room for one outcome only.
 -- Assumes nothing.
 use mathlib.Core.Path.{_≡_}
+use mathlib.Core.Bool.{Bool}
 use mathlib.Core.List.{List}
 use Prim.Native.Nat.{ℕ}
 use Rattle.ground.proofs.OnlyOne.{only-one}
@@ -16,9 +17,9 @@ pub only-start-line : (rule signals ws out : List ℕ) (o o′ : Opened × List 
     → StartLineClause rule signals ws out o → StartLineClause rule signals ws out o′ → o ≡ o′
 only-start-line rule signals ws out = only-one _
 
-pub only-feed-line : (w : Watcher) (piece ws out : List ℕ) (o o′ : Turn × List ℕ × List ℕ)
-    → FeedLineClause w piece ws out o → FeedLineClause w piece ws out o′ → o ≡ o′
-only-feed-line w piece ws out = only-one _
+pub only-feed-line : (w : Watcher) (piece : List ℕ) (more : Bool) (ws out : List ℕ) (o o′ : Turn × List ℕ × List ℕ)
+    → FeedLineClause w piece more ws out o → FeedLineClause w piece more ws out o′ → o ≡ o′
+only-feed-line w piece more ws out = only-one _
 
 pub only-ask-line : (w : Watcher) (ws out : List ℕ) (o o′ : ℕ × List ℕ) → AskLineClause w ws out o
     → AskLineClause w ws out o′ → o ≡ o′

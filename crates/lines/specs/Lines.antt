@@ -1,6 +1,6 @@
 -- What each function answers: the text of a line in a lent buffer, and how many bytes it has there.
-use mathlib.Core.Bool.{not}
-use mathlib.Core.List.{List, _++_}
+use mathlib.Core.Bool.{Bool, true, false, not}
+use mathlib.Core.List.{List, [], _++_}
 use Prim.Native.Nat.{ℕ, min}
 use lib.ListN.{length, take, drop}
 use Rattle.watcher.specs.declared.state.Watcher.{Watcher}
@@ -11,7 +11,7 @@ use Rattle.watcher.specs.State.{isRefused}
 use Rattle.watcher.specs.Calls.{startOf, feedOf, askOf}
 use Rattle.lines.specs.declared.turns.Opened.{Opened}
 use Rattle.lines.specs.declared.turns.Turn.{Turn}
-use Rattle.lines.specs.Text.{foundLine, answerLine, endLine}
+use Rattle.lines.specs.Text.{foundLine, answerLine, askText, endLine}
 
 -- a text at the beginning of a buffer: what does not fit is cut off, and what is behind stays
 unfoldable pub placed : (out text : List ℕ) → ℕ × List ℕ
@@ -29,14 +29,23 @@ startedLine out s =
 unfoldable pub startLine : (rule signals ws out : List ℕ) → Opened × List ℕ × List ℕ
 startLine rule signals ws out = startedLine out (startOf rule signals ws)
 
--- feed a record
-unfoldable pub fedLine : (piece out : List ℕ) → Fed × List ℕ → Turn × List ℕ × List ℕ
-fedLine piece out f =
-    let line : ℕ × List ℕ = placed out (answerLine (timeOf piece) (f .0 .answer)) in
+-- what stands behind the word of a record, of the state and area after it: nothing, or more
+unfoldable pub behindText : (more : Bool) → Watcher → (ws : List ℕ) → List ℕ
+behindText false w ws = []
+behindText true w ws = askText (askOf w ws)
+
+-- the line of a piece, by what feeding it hands back
+unfoldable pub pieceLine : (piece : List ℕ) (more : Bool) → Fed × List ℕ → List ℕ
+pieceLine piece more f = answerLine (timeOf piece) (behindText more (f .0 .next) (f .1)) (f .0 .answer)
+
+-- feed a piece
+unfoldable pub fedLine : (piece : List ℕ) (more : Bool) (out : List ℕ) → Fed × List ℕ → Turn × List ℕ × List ℕ
+fedLine piece more out f =
+    let line : ℕ × List ℕ = placed out (pieceLine piece more f) in
     (record { next = f .0 .next; length = line .0 }, f .1, line .1)
 
-unfoldable pub feedLine : Watcher → (piece ws out : List ℕ) → Turn × List ℕ × List ℕ
-feedLine w piece ws out = fedLine piece out (feedOf w piece ws)
+unfoldable pub feedLine : Watcher → (piece : List ℕ) (more : Bool) (ws out : List ℕ) → Turn × List ℕ × List ℕ
+feedLine w piece more ws out = fedLine piece more out (feedOf w piece ws)
 
 -- ask how the log ends: how many bytes the line has, and the buffer
 unfoldable pub askLine : Watcher → (ws out : List ℕ) → ℕ × List ℕ

@@ -1,5 +1,5 @@
 // Start, feed and ask, each with the line that it prints.
-use crate::text::put_answer;
+use crate::records::put_answer;
 use crate::text::put_end;
 use crate::text::put_found;
 use watcher::readings::time_of;
@@ -45,15 +45,21 @@ pub fn start_line(rule: &[u8], signals: &[u8], area: &mut [u64], out: &mut [u8])
     }
 }
 
-// Feed a piece of the log; the line is its time and word, or its refusal.
-pub fn feed_line(watcher: Watcher, piece: &[u8], area: &mut [u64], out: &mut [u8]) -> Turn
-    ensures { λ r. ⌜ FeedLineClause watcher (now (piece .entry)) (now (area .entry)) (now (out .entry))
+// Feed a piece of the log; the line is its time and word, and more behind it if so asked, or its refusal.
+pub fn feed_line(
+    watcher: Watcher,
+    piece: &[u8],
+    more: bool,
+    area: &mut [u64],
+    out: &mut [u8],
+) -> Turn
+    ensures { λ r. ⌜ FeedLineClause watcher (now (piece .entry)) more (now (area .entry)) (now (out .entry))
         (r, now (area .exit), now (out .exit)) ⌝ }
 {
     let fed = watcher.feed(piece, area);
     let answer = fed.answer;
     let next = fed.next;
-    let length = put_answer(out, 0, time_of(piece), answer);
+    let length = put_answer(out, time_of(piece), answer, more, next, area);
     Turn { next, length }
 }
 
