@@ -22,7 +22,7 @@ use Rattle.watcher.specs.declared.state.Answer.{Answer}
 use Rattle.watcher.specs.declared.state.Answer.the-variants as answer
 use Rattle.watcher.specs.declared.state.End.{End}
 use Rattle.watcher.specs.declared.state.End.the-variants as end
-use Rattle.watcher.specs.Numbers.{verdictValue, refusalNumber, decided}
+use Rattle.watcher.specs.Numbers.{refusalNumber}
 use Rattle.watcher.specs.Records.{timeOf}
 use Rattle.watcher.specs.Calls.{askOf}
 use Rattle.watcher.proofs.Numbers.{number-most}
@@ -59,7 +59,7 @@ word-short word.Pending = lit≤ tt
 
 verdict-short : (v : Verdict) → length (verdictText v) ≤ 7
 unfolding verdictText
-verdict-short v = word-short (decided (verdictValue v))
+verdict-short v = word-short _
 
 time-short : (piece : List ℕ) → ((i : ℕ) → getD piece i 0 < 256) → length (decimal (timeOf piece)) ≤ 10
 unfolding timeOf
