@@ -99,12 +99,10 @@ pub ask-wrong : (bytes ws : List ℕ) → (length bytes ≡ stateBytes → ⊥) 
 unfolding askBytes
 ask-wrong bytes ws h = ap (λ n. (n, bytes, ws)) (wrong-one bytes stateLength (endCode (askOf (stateIn bytes) ws)) h)
 
-pub ask-right : (bytes ws ws′ : List ℕ) (w : Watcher) (e : End) (t : Told) (n : ℕ) → length bytes ≡ stateBytes
-    → w ≡ stateIn bytes → _≡_ {A = End × List ℕ} (e, ws′) (askOf w ws, ws) → t ≡ toldAt e → n ≡ toldCode t
-    → AskClause bytes ws (n, bytes, ws)
+pub ask-right : (bytes ws : List ℕ) (w : Watcher) (e : End) (t : Told) (n : ℕ) → length bytes ≡ stateBytes
+    → w ≡ stateIn bytes → e ≡ askOf w ws → t ≡ toldAt e → n ≡ toldCode t → AskClause bytes ws (n, bytes, ws)
 unfolding askBytes endCode
-ask-right bytes ws ws′ w e t n h is f g m =
-    let asked : e ≡ askOf w ws = ap (λ (o : End × List ℕ). o .0) f in
+ask-right bytes ws w e t n h is f g m =
     let made : n ≡ endCode (askOf (stateIn bytes) ws) = cc in
     ap (λ k. (k, bytes, ws)) (made ∙ right-one bytes stateLength (endCode (askOf (stateIn bytes) ws)) h)
 

@@ -102,19 +102,20 @@ module _ (w : Watcher) (ws : List ℕ) where
       (h ∙ ap (λ x. closedWith (planOf w) x ws) e)
 
   module _ (a : End) (area : List ℕ) (asked : AskClause w ws (a, area)) where
-    is : a ≡ askOf w ws
-    is = ap (λ (o : End × List ℕ). o .0) asked
+    -- the answer by itself
+    pub asked-answer : a ≡ askOf w ws
+    asked-answer = ap (λ (o : End × List ℕ). o .0) asked
 
     pub close-refused-with : (r : Refusal) → a ≡ end.Refused r
         → _≡_ {A = Ended × List ℕ} (record { answer = end.Refused r; next = w }, ws) (closeOf w ws)
     unfolding closeBy
-    close-refused-with r e = ap (closeBy w ws) (sym e ∙ is) ∙ sym close-by
+    close-refused-with r e = ap (closeBy w ws) (sym e ∙ asked-answer) ∙ sym close-by
 
     pub close-fine-with : (v : Verdict) (r : Ended) (out : List ℕ) → a ≡ end.Closed v
         → (r, out) ≡ closeBy w ws (end.Closed v) → (r, out) ≡ closeOf w ws
-    close-fine-with v r out e h = h ∙ ap (closeBy w ws) (sym e ∙ is) ∙ sym close-by
+    close-fine-with v r out e h = h ∙ ap (closeBy w ws) (sym e ∙ asked-answer) ∙ sym close-by
 
     -- a log that can be closed is not refused
     pub ask-fine : (v : Verdict) → a ≡ end.Closed v → found.Fine ≡ closeRefusal w ws
     unfolding foundAt
-    ask-fine v e = ap foundAt (sym e ∙ is) ∙ ask-found
+    ask-fine v e = ap foundAt (sym e ∙ asked-answer) ∙ ask-found

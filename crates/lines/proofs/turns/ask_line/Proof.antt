@@ -1,6 +1,7 @@
 -- `turns::ask_line` is ask, with its line.
 -- Assumes nothing.
 use borrow.Author.Needs.{needs}
+use Rattle.watcher.proofs.Asking.{asked-answer}
 use Rattle.lines.proofs.Turned.{ask-turned}
 use Rattle.lines.proofs.turns.ask_line.Statement.{statement}
 use Rattle.lines.proofs.turns.ask_line.Tie as tie
@@ -17,7 +18,7 @@ same-length c = search needs
 returns : tie.Need-returns
 returns c =
     let put = c .before .before in
-    ask-turned _ _ _ _ _ (put .before .ask .ensures) (put .put-end .ensures)
+    ask-turned _ _ _ _ _ (asked-answer _ _ _ _ (put .before .ask .ensures)) (put .put-end .ensures)
 
 pub ask-line-spec : {M : Type 1} → statement M
 ask-line-spec = tie.close (tie.spec ask-requires put-end-requires same-length returns)

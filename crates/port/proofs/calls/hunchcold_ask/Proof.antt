@@ -1,6 +1,7 @@
 -- `calls::hunchcold_ask` asks the state that the bytes hold.
 -- Assumes nothing.
 use borrow.Author.Needs.{needs}
+use Rattle.watcher.proofs.Asking.{asked-answer}
 use Rattle.port.proofs.Exported.{ask-wrong, ask-right}
 use Rattle.port.proofs.calls.hunchcold_ask.Statement.{statement}
 use Rattle.port.proofs.calls.hunchcold_ask.Tie as tie
@@ -25,7 +26,8 @@ returns-2 c =
     let told = c .before in
     let ask = told .before in
     let read = ask .before in
-    ask-right _ _ _ _ _ _ _ (read .before .if1 .left) (read .read-state .ensures) (ask .ask .ensures)
+    ask-right _ _ _ _ _ _ (read .before .if1 .left) (read .read-state .ensures)
+    (asked-answer _ _ _ _ (ask .ask .ensures))
     (told .told-at .ensures) (c .told-code .ensures)
 
 pub hunchcold-ask-spec : {M : Type 1} → statement M
