@@ -46,7 +46,7 @@ module _ (f : Functions) (right : Meets f) where
 
   module _ (rule signals ws : List ℕ) where
     -- after any calls asking answers what closing would
-    asks-ending : Begun f rule signals ws → (calls : List Call) → MachineCalls calls
+    pub asks-ending : Begun f rule signals ws → (calls : List Call) → MachineCalls calls
         → asked f (reached f rule signals ws calls) ≡ ending f (reached f rule signals ws calls)
     asks-ending begun calls machine =
         let held = reached-held f right rule signals ws begun calls machine in

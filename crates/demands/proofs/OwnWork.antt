@@ -30,6 +30,7 @@ use Rattle.demands.proofs.Courses.{Sound, ready-after, wrong-stays, ear
 use Rattle.demands.proofs.Courses.{closed-stays, sound-in}
 use Rattle.demands.proofs.Deciding.{course-right}
 use Rattle.demands.proofs.Following.{start-fine, reached-is, told-is, ending-is, handed-is}
+use Rattle.demands.proofs.Asking.{asks-ending}
 
 module _ (rule signals : List ℕ) (fine : Accepted rule signals) where
   -- closing leaves the past rows
@@ -97,6 +98,7 @@ module _ (f : Functions) (right : Meets f) where
             λ c.
             ended-by (going []) c 11
             (λ l. subst (λ x. Carries (foundAt x) 11) (sym (close-none rule signals fine .0)) refl);
+        asks = asks-ending f right rule signals ws begun calls machine;
         past =
             λ j h.
             ap (λ (x : Held). rowAt (x .area) j) (handed-is f right rule signals ws begun calls machine closing tt)

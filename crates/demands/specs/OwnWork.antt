@@ -12,7 +12,8 @@ use Rattle.watcher.specs.State.{brokenState}
 use Rattle.watcher.specs.Calls.{wrongArea, waitOf}
 use Rattle.watcher.specs.Machine.{MachineBytes}
 use Rattle.watcher.specs.Numbers.{foundIn, foundAt}
-use Rattle.demands.specs.Watching.{Functions, Call, closing, told, ending, handed, reached, MachineCalls, Begun}
+use Rattle.demands.specs.Watching.{Functions, Call, closing, told, asked, ending, handed, reached}
+use Rattle.demands.specs.Watching.{MachineCalls, Begun}
 use Rattle.demands.specs.Logs.{lastTime, going, over, courseOf}
 use Rattle.demands.specs.Rewritten.{readRule}
 use Rattle.demands.specs.Tables.{Carries}
@@ -34,6 +35,8 @@ pub record OwnWork (f : Functions) (rule signals ws : List ℕ) (calls : List Ca
   pub again : (e : Entry) (es : List Entry) → courseOf signals calls ≡ over e es
       → Carries (foundAt (ending f (reached f rule signals ws calls))) 10
   pub nothing : courseOf signals calls ≡ going [] → Carries (foundAt (ending f (reached f rule signals ws calls))) 11
+  -- asking is answered as closing would be
+  pub asks : asked f (reached f rule signals ws calls) ≡ ending f (reached f rule signals ws calls)
   -- closing leaves the past rows as they were
   pub past : (j : ℕ) → j < mostParameters
       → rowAt (handed f (reached f rule signals ws calls) closing .area) j
