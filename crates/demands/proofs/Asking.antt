@@ -12,7 +12,7 @@ use Rattle.watcher.specs.Machine.{MachineWords, MachineState}
 use Rattle.watcher.specs.Runs.{Held}
 use Rattle.watcher.proofs.Asking.{ask-found, ask-as-close}
 use Rattle.demands.specs.Watching.{Functions, Meets, Call, feeding, asking, closing, asked, ending, handed}
-use Rattle.demands.specs.Watching.{handedOn, reached, MachineCall, MachineCalls, Begun}
+use Rattle.demands.specs.Watching.{handedOn, reached, MachineCalls, Begun}
 use Rattle.demands.specs.Tables.{closeTable, AsTable}
 use Rattle.demands.specs.Asking.{withoutAsks, AskingReports, AskingAgrees, Asking}
 use Rattle.demands.proofs.Following.{MachineHeld, one-held, reached-held}

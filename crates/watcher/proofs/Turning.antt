@@ -1,7 +1,6 @@
 -- The calls from their steps: each law joins what the functions behind a call say.
 -- Assumes nothing.
 use mathlib.Core.Path.{_≡_, sym, ap, ap₂, _∙_, subst}
-use mathlib.Core.Bool.{Bool}
 use mathlib.Core.List.{List, []}
 use Prim.Native.Nat.{ℕ, _≤_}
 use lib.ListN.{length}
@@ -9,12 +8,12 @@ use Rattle.forms.specs.Form.{Form}
 use Rattle.forms.specs.Rows.{whichConstant}
 use Rattle.forms.specs.declared.rows.Truth.{Truth}
 use Rattle.forms.specs.declared.rows.Truth.the-variants.{True, False, Open}
-use Rattle.meaning.specs.Rule.{Node, Entry}
-use Rattle.meaning.specs.Words.{Known, word, wordFor, start, close, valueIfLast}
+use Rattle.meaning.specs.Rule.{Entry}
+use Rattle.meaning.specs.Words.{Known, word, wordFor, start}
 use Rattle.rewriting.specs.declared.step.Plan.{Plan}
 use Rattle.rewriting.specs.declared.step.Moment.{Moment}
-use Rattle.rewriting.specs.Known.{wordsFor, knownIn, areaOf, Tidy}
-use Rattle.rewriting.specs.Plans.{Sound, ruleFor, entryFor, readIn, leftWith, fedWith, closedWith}
+use Rattle.rewriting.specs.Known.{wordsFor, areaOf, Tidy}
+use Rattle.rewriting.specs.Plans.{Sound, ruleFor, leftWith, fedWith}
 use Rattle.watcher.specs.declared.state.Word.the-variants as said
 use Rattle.watcher.specs.declared.state.Phase.{Phase}
 use Rattle.watcher.specs.declared.state.Phase.the-variants as phase
@@ -24,20 +23,17 @@ use Rattle.watcher.specs.declared.state.Found.{Found}
 use Rattle.watcher.specs.declared.state.Found.the-variants as found
 use Rattle.watcher.specs.declared.state.Report.{Report}
 use Rattle.watcher.specs.declared.state.Answer.the-variants as answer
-use Rattle.watcher.specs.declared.state.End.the-variants as end
 use Rattle.watcher.specs.declared.state.Watcher.{Watcher}
 use Rattle.watcher.specs.declared.state.Started.{Started}
 use Rattle.watcher.specs.declared.state.Fed.{Fed}
-use Rattle.watcher.specs.declared.state.Ended.{Ended}
 use Rattle.watcher.specs.Limits.{mostRecords, mostParameters, areaWords}
 use Rattle.watcher.specs.Rules.{recordsOf}
 use Rattle.watcher.specs.Records.{timeOf, signalWord, entryOf}
-use Rattle.watcher.specs.Numbers.{saying, verdictFor, stageOf, lastIn}
+use Rattle.watcher.specs.Numbers.{saying, stageOf, lastIn}
 use Rattle.watcher.specs.State.{ruleOf, parametersOf}
-use Rattle.watcher.specs.Calls.{freshState, zeroState, runningState, closedState, knownNext, knownNow}
+use Rattle.watcher.specs.Calls.{freshState, zeroState, runningState, knownNext}
 use Rattle.watcher.specs.Calls.{startRefusal, startWith, startOf, reportOf, feedRefusal, feedWith, feedOf}
-use Rattle.watcher.specs.Calls.{closeRefusal, closeWith, closeOf}
-use Rattle.watcher.specs.inside.Turns.{planOn, planOf, planIn, rewrittenOf, ReportsOn, endedState, begunOf}
+use Rattle.watcher.specs.inside.Turns.{planOn, planOf, planIn, rewrittenOf, ReportsOn, begunOf}
 
 -- the word of a form by which constant it is
 module _ (m : ℕ) (f : Form m) (t : Truth) (is : t ≡ whichConstant m f) where
