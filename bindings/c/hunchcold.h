@@ -49,7 +49,7 @@ extern "C" {
 #define HUNCHCOLD_LOG_RECORD 8       /* log record is not 16 bytes or breaks the layout */
 #define HUNCHCOLD_LOG_TIME 9         /* time is lower than the last accepted record's */
 #define HUNCHCOLD_ALREADY_CLOSED 10  /* the watcher is closed */
-#define HUNCHCOLD_NOTHING_FED 11     /* closing with no accepted record */
+#define HUNCHCOLD_NOTHING_FED 11     /* asking or closing with no accepted record */
 #define HUNCHCOLD_BROKEN_STATE 12    /* state or work area have not the shape of a watcher's */
 #define HUNCHCOLD_CODES_LENGTH 90    /* codes are not one for each 16 bytes of the log and one for a short rest */
 #define HUNCHCOLD_STATE_LENGTH 91    /* state is not 280 bytes */
@@ -76,6 +76,10 @@ uint8_t hunchcold_would_refuse(const uint8_t *state, size_t state_bytes, const u
 /* Feeds one record: its word, or a refusal. Tests 91, then 7, 12, 10, 8, 9. */
 uint8_t hunchcold_feed(uint8_t *state, size_t state_bytes, const uint8_t *record, size_t record_bytes, uint64_t *area,
                        size_t area_words);
+
+/* How the log would end, were this the last record: the verdict that closing would answer now, or its refusal. Tests
+ * 91, then 7, 12, 10, 11. Writes nothing, the scratch neither; the log goes on. */
+uint8_t hunchcold_ask(const uint8_t *state, size_t state_bytes, const uint64_t *area, size_t area_words);
 
 /* Closes the log: its verdict, or a refusal. Tests 91, then 7, 12, 10, 11. */
 uint8_t hunchcold_close(uint8_t *state, size_t state_bytes, uint64_t *area, size_t area_words);

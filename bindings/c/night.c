@@ -1,8 +1,10 @@
-/* Watches one log as the watching program does, call by call: night RULE SIGNALS LOG */
+/* Watches one log as the watching program does, call by call: night RULE SIGNALS LOG [more] */
 #include "hunchcold.h"
 
 #include <inttypes.h>
+#include <stdbool.h>
 #include <stdio.h>
+#include <string.h>
 
 /* The most bytes that a rule or a signal list has, and one more, so that a longer file is refused. */
 #define LIST_ROOM (16 * HUNCHCOLD_LIST_RECORD_BYTES + 1)
@@ -36,32 +38,40 @@ static uint32_t time_of(const uint8_t *record) {
 static void print_code(uint8_t code) {
     switch (code) {
     case HUNCHCOLD_KEPT:
-        puts("kept");
+        printf("kept");
         break;
     case HUNCHCOLD_BROKEN:
-        puts("broken");
+        printf("broken");
         break;
     case HUNCHCOLD_PENDING:
-        puts("pending");
+        printf("pending");
         break;
     default:
-        printf("refused %d\n", code);
+        printf("refused %d", code);
     }
 }
 
-/* Feeds each piece of the log, with a line for each, and closes. */
-static void watch(uint8_t *state, uint64_t *area, FILE *log) {
+/* Feeds each piece of the log, with a line for each, and closes. With more, asks after each accepted record how the log
+ * would end now, as at shift change, and goes on. */
+static void watch(uint8_t *state, uint64_t *area, FILE *log, bool more) {
     uint8_t record[HUNCHCOLD_LOG_RECORD_BYTES];
     size_t length;
     while ((length = read_bytes(log, record, sizeof record)) > 0) {
         uint8_t code = hunchcold_feed(state, HUNCHCOLD_STATE_BYTES, record, length, area, HUNCHCOLD_AREA_WORDS);
-        if (code >= HUNCHCOLD_KEPT) {
+        bool accepted = code >= HUNCHCOLD_KEPT;
+        if (accepted) {
             printf("%" PRIu32 " ", time_of(record));
         }
         print_code(code);
+        if (accepted && more) {
+            printf(" ask ");
+            print_code(hunchcold_ask(state, HUNCHCOLD_STATE_BYTES, area, HUNCHCOLD_AREA_WORDS));
+        }
+        putchar('\n');
     }
     printf("end ");
     print_code(hunchcold_close(state, HUNCHCOLD_STATE_BYTES, area, HUNCHCOLD_AREA_WORDS));
+    putchar('\n');
 }
 
 int main(int count, char **arguments) {
@@ -75,10 +85,11 @@ int main(int count, char **arguments) {
                                    HUNCHCOLD_AREA_WORDS);
     if (code != HUNCHCOLD_FINE) {
         print_code(code);
+        putchar('\n');
         return 0;
     }
     FILE *log = opened(count, arguments, 3);
-    watch(state, area, log);
+    watch(state, area, log, count > 4 && strcmp(arguments[4], "more") == 0);
     if (log != NULL) {
         fclose(log);
     }

@@ -4,6 +4,7 @@ use crate::broken;
 use crate::case::{Call, Case};
 use crate::claims;
 use crate::counts::{Counts, Mark};
+use crate::ends::SoFar;
 use crate::lists::{self, *};
 use crate::plain;
 use crate::state::*;
@@ -60,23 +61,29 @@ fn calls(case: &Case, counts: &mut Counts) -> Result<(), String> {
     if !case.handed_in {
         pair.start(case, counts)?;
     }
+    pair.ask("at first", counts)?;
     pair.horizon("at first", counts)?;
     for (place, call) in case.calls.iter().enumerate() {
         match call {
             Call::Feed(record) => pair.feed(place, record, case.handed_in, counts)?,
             Call::Close => pair.close(place, case.handed_in, counts)?,
         }
-        pair.horizon(&format!("after call {place}"), counts)?;
+        let when = format!("after call {place}");
+        pair.ask(&when, counts)?;
+        pair.horizon(&when, counts)?;
     }
     Ok(())
 }
 
-/// State and area as the library leaves them, and as the plain watcher does.
+/// State and area as the library leaves them, and as the plain watcher does; the log, if it began with an accepted
+/// start, and what the last ask answered.
 struct Pair {
     state: Vec<u8>,
     area: Vec<u64>,
     wanted_state: Vec<u8>,
     wanted_area: Vec<u64>,
+    so_far: Option<SoFar>,
+    asked: u8,
 }
 
 impl Pair {
@@ -87,6 +94,8 @@ impl Pair {
             wanted_area: area.clone(),
             state,
             area,
+            so_far: None,
+            asked: 0,
         }
     }
 
@@ -102,6 +111,7 @@ impl Pair {
         let answer = raw::start(&case.rule, &case.signals, &mut self.state, &mut self.area);
         let wanted = plain::start(&case.rule, &case.signals, &mut self.wanted_state, &mut self.wanted_area);
         self.compare("start", answer, wanted, counts)?;
+        self.so_far = (wanted == 0).then(|| SoFar::new(&case.rule, &case.signals));
         counts.start.add(answer as u64);
         Ok(())
     }
@@ -118,6 +128,9 @@ impl Pair {
         if (would == 0) != (answer > 100) || would != 0 && would != answer {
             return Err(format!("call {place}: would_refuse answers {would}, feed {answer}"));
         }
+        if let Some(so_far) = &mut self.so_far {
+            so_far.feed(record);
+        }
         counts.feed.add(answer as u64);
         if handed_in && would == 0 {
             counts.mark(Mark::HandedInAndFed);
@@ -125,10 +138,35 @@ impl Pair {
         Ok(())
     }
 
+    /// Asks how the log would end now. Nothing may change, and the answer is the value of the records accepted so far.
+    fn ask(&mut self, when: &str, counts: &mut Counts) -> Result<(), String> {
+        let answer = raw::ask(&self.state, &self.area);
+        let wanted = plain::ask(&self.wanted_state, &self.wanted_area);
+        self.compare(&format!("ask {when}"), answer, wanted, counts)?;
+        if let Some(so_far) = &self.so_far {
+            same(&format!("ask {when}"), "answer, by the meaning,", answer, so_far.ask())?;
+            counts.mark(Mark::AskedAndValued);
+        }
+        if answer > 100 && self.area[SCRATCH..].iter().any(|word| *word != 0) {
+            counts.mark(Mark::AskedOverScratch);
+        }
+        self.count_reason(wanted, counts);
+        counts.ask.add(answer as u64);
+        self.asked = answer;
+        Ok(())
+    }
+
+    /// Closes; the answer is that of the ask before.
     fn close(&mut self, place: usize, handed_in: bool, counts: &mut Counts) -> Result<(), String> {
         let answer = raw::close(&mut self.state, &mut self.area);
         let wanted = plain::close(&mut self.wanted_state, &mut self.wanted_area);
         self.compare(&format!("call {place}, close"), answer, wanted, counts)?;
+        if answer != self.asked {
+            return Err(format!("call {place}: ask answers {}, close {answer}", self.asked));
+        }
+        if let Some(so_far) = &mut self.so_far {
+            so_far.close();
+        }
         self.count_reason(wanted, counts);
         counts.close.add(answer as u64);
         if handed_in && answer > 100 {

@@ -3,6 +3,7 @@
 use crate::case::Case;
 use crate::codes::*;
 use crate::counts::{Counts, Mark};
+use crate::ends::{ending, record_refusal};
 use crate::lists::*;
 use crate::meaning::{horizon, value};
 
@@ -24,13 +25,7 @@ pub fn check(case: &Case, codes: &[u8], verdict: u8, counts: &mut Counts) -> Res
     };
     for (place, (record, code)) in case.log().chunks(LOG_RECORD).zip(codes).enumerate() {
         let last = run.log.last().map(|last| last.time);
-        let refusal = if wrong_log_record(record) {
-            8
-        } else if last.is_some_and(|last| time_of(record) < last) {
-            9
-        } else {
-            0
-        };
+        let refusal = record_refusal(record, &run.log);
         if (refusal == 0) != [KEPT, BROKEN, PENDING].contains(code) || refusal != 0 && *code != refusal {
             return Err(format!(
                 "meaning: record {place} has code {code}, its refusal is {refusal}"
@@ -94,11 +89,7 @@ impl Run {
     }
 
     fn closing(&self) -> Result<(), String> {
-        let wanted = match self.log.is_empty() {
-            true => 11,
-            false if value(&self.rule, &self.log) => KEPT,
-            false => BROKEN,
-        };
+        let wanted = ending(&self.rule, &self.log);
         if self.verdict != wanted {
             return Err(format!(
                 "meaning: closing answers {}, its value is {wanted}",

@@ -74,9 +74,11 @@ pub enum Mark {
     HorizonNone,
     HandedInAndFed,
     HandedInAndClosed,
+    AskedAndValued,
+    AskedOverScratch,
 }
 
-const MARKS: [(Mark, &str); 11] = [
+const MARKS: [(Mark, &str); 13] = [
     (Mark::EqualTimes, "record with the time before it"),
     (Mark::KilometresAnHour, "record with wind in km/h"),
     (Mark::MetresASecond, "record with wind in m/s"),
@@ -88,6 +90,8 @@ const MARKS: [(Mark, &str); 11] = [
     (Mark::HorizonNone, "no horizon"),
     (Mark::HandedInAndFed, "handed in, then a record accepted"),
     (Mark::HandedInAndClosed, "handed in, then closed"),
+    (Mark::AskedAndValued, "ask held against the value so far"),
+    (Mark::AskedOverScratch, "verdict of ask, scratch not zero"),
 ];
 
 const RULE_KINDS: [(u8, &str); 9] = [
@@ -109,6 +113,7 @@ pub struct Counts {
     pub start: Table,
     pub would_refuse: Table,
     pub feed: Table,
+    pub ask: Table,
     pub close: Table,
     pub reasons: Table,
     pub parameters: Table,
@@ -130,6 +135,7 @@ impl Counts {
             start: Table::of_codes("Answers of start", &[0, 1, 2, 3, 4, 5, 6, 7, 91]),
             would_refuse: Table::of_codes("Answers of would_refuse", &[0, 7, 8, 9, 10, 12, 91]),
             feed: Table::of_codes("Answers of feed", &[101, 102, 103, 7, 8, 9, 10, 12, 91]),
+            ask: Table::of_codes("Answers of ask", &[101, 102, 7, 10, 11, 12, 91]),
             close: Table::of_codes("Answers of close", &[101, 102, 7, 10, 11, 12, 91]),
             reasons: Table::new(
                 "Calls refused with 12, by reason",
@@ -146,7 +152,7 @@ impl Counts {
         self.marks.add(mark as u64);
     }
 
-    fn tables(&self) -> [&Table; 11] {
+    fn tables(&self) -> [&Table; 12] {
         [
             &self.kinds,
             &self.run,
@@ -154,6 +160,7 @@ impl Counts {
             &self.start,
             &self.would_refuse,
             &self.feed,
+            &self.ask,
             &self.close,
             &self.reasons,
             &self.parameters,

@@ -7,6 +7,7 @@ mod check;
 mod claims;
 mod codes;
 mod counts;
+mod ends;
 mod faults;
 mod form;
 mod handed;

@@ -20,7 +20,7 @@ impl Case {
 
     /// Whether the call says something here: a start and a whole log know nothing of what is handed in.
     pub fn has(&self, call: Call) -> bool {
-        !self.handed || call == Call::Feed || call == Call::Close
+        !self.handed || matches!(call, Call::Feed | Call::Ask | Call::Close)
     }
 }
 

@@ -78,6 +78,7 @@ pub fn print(cases: &[Case], counts: &str) -> Result<(), String> {
     let feeds = costs(Call::Feed)?;
     table("One feed", sides, &feeds, 0, 1);
     table("One start", sides, &costs(Call::Start)?, 0, 1);
+    table("One ask", sides, &costs(Call::Ask)?, 0, 1);
     table("One close", sides, &costs(Call::Close)?, 0, 1);
     table(
         "A whole log of 51 records: start, feeds and close",

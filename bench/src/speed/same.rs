@@ -42,7 +42,17 @@ fn accepted(what: &str, code: u8) -> Result<(), String> {
     Err(format!("{what}: refused with {code}"))
 }
 
-/// Feeds each record on every side, and closes a copy after each; the scratch holds something before every call.
+/// Asks on every side: nothing may change. The answer.
+fn ask(what: &str, watched: &Watched) -> Result<u8, String> {
+    let (code, after) = each(what, watched, |side, watched| watched.ask(side))?;
+    if after != *watched {
+        return Err(format!("{what}: state or area changes"));
+    }
+    Ok(code)
+}
+
+/// Feeds each record on every side, and after each asks, and closes a copy, which must answer the same; the scratch
+/// holds something before every call.
 fn follow(what: &str, from: &Watched, log: &[u8]) -> Result<(), String> {
     let mut watched = from.clone();
     for (i, record) in log.chunks(16).enumerate() {
@@ -51,8 +61,12 @@ fn follow(what: &str, from: &Watched, log: &[u8]) -> Result<(), String> {
         let (code, mut next) = each(&what, &watched, |side, watched| watched.feed(side, record))?;
         accepted(&what, code)?;
         next.area[832..].fill(0xDEAD_BEEF);
+        let asked = ask(&format!("{what}, ask"), &next)?;
         let (code, _) = each(&format!("{what}, close"), &next, |side, watched| watched.close(side))?;
         accepted(&what, code)?;
+        if code != asked {
+            return Err(format!("{what}: ask answers {asked}, close {code}"));
+        }
         watched = next;
     }
     Ok(())

@@ -10,6 +10,7 @@ pub struct Side {
     pub name: &'static str,
     start: fn(&[u8], &[u8], &mut [u8], &mut [u64]) -> u8,
     feed: fn(&mut [u8], &[u8], &mut [u64]) -> u8,
+    ask: fn(&[u8], &[u64]) -> u8,
     close: fn(&mut [u8], &mut [u64]) -> u8,
     run: fn(&[u8], &[u8], &[u8], &mut [u64], &mut [u8]) -> u8,
 }
@@ -20,6 +21,7 @@ pub const SIDES: [Side; 3] = [
         name: "proved",
         start: raw::start,
         feed: raw::feed,
+        ask: raw::ask,
         close: raw::close,
         run: raw::run,
     },
@@ -27,6 +29,7 @@ pub const SIDES: [Side; 3] = [
         name: "rust",
         start: plain::start,
         feed: plain::feed,
+        ask: plain::ask,
         close: plain::close,
         run: plain::run,
     },
@@ -34,6 +37,7 @@ pub const SIDES: [Side; 3] = [
         name: "faster",
         start: faster::start,
         feed: faster::feed,
+        ask: faster::ask,
         close: faster::close,
         run: faster::run,
     },
@@ -74,6 +78,10 @@ impl Watched {
         (side.feed)(&mut self.state, record, &mut self.area)
     }
 
+    pub fn ask(&self, side: &Side) -> u8 {
+        (side.ask)(&self.state, &self.area)
+    }
+
     pub fn close(&mut self, side: &Side) -> u8 {
         (side.close)(&mut self.state, &mut self.area)
     }
@@ -87,17 +95,19 @@ impl Watched {
 pub enum Call {
     Feed,
     Start,
+    Ask,
     Close,
     Run,
 }
 
-pub const CALLS: [Call; 4] = [Call::Feed, Call::Start, Call::Close, Call::Run];
+pub const CALLS: [Call; 5] = [Call::Feed, Call::Start, Call::Ask, Call::Close, Call::Run];
 
 impl Call {
     pub fn name(self) -> &'static str {
         match self {
             Call::Feed => "feed",
             Call::Start => "start",
+            Call::Ask => "ask",
             Call::Close => "close",
             Call::Run => "run",
         }
@@ -111,10 +121,10 @@ impl Call {
         }
     }
 
-    /// What stands before the measured calls: closing comes after the whole log.
+    /// What stands before the measured calls: asking and closing come after the whole log.
     pub fn before(self, case: &Case) -> Watched {
         let mut watched = case.begin.clone();
-        if self == Call::Close {
+        if self == Call::Ask || self == Call::Close {
             for record in case.later().chunks(16) {
                 watched.feed(PROVED, record);
             }
@@ -130,6 +140,7 @@ pub fn measured(side: &Side, call: Call, case: &Case, watched: &mut Watched) -> 
     match call {
         Call::Feed => case.later().chunks(16).fold(0, |_, record| watched.feed(side, record)),
         Call::Start => watched.start(side, &case.rule),
+        Call::Ask => watched.ask(side),
         Call::Close => watched.close(side),
         Call::Run => watched.run(side, &case.rule, &case.log),
     }

@@ -1,4 +1,4 @@
-//! Watches one log as the watching program does, call by call: night RULE SIGNALS LOG
+//! Watches one log as the watching program does, call by call: night RULE SIGNALS LOG [more]
 
 use hunchcold::{Refusal, Watcher, LOG_RECORD_BYTES};
 use std::io::{self, Write};
@@ -22,14 +22,24 @@ fn refused(refusal: Refusal) -> String {
     format!("refused {}", refusal.number())
 }
 
-/// Starts, feeds each piece of the log and closes, with a line for each answer.
-fn watch(rule: &[u8], signals: &[u8], log: &[u8], out: &mut impl Write) -> io::Result<()> {
+/// How the log would end now, behind the word of a record.
+fn asked(watcher: &Watcher) -> String {
+    match watcher.ask() {
+        Ok(verdict) => format!(" ask {verdict}"),
+        Err(refusal) => format!(" ask {}", refused(refusal)),
+    }
+}
+
+/// Starts, feeds each piece of the log and closes, with a line for each answer. With more, asks after each accepted
+/// record how the log would end now, as at shift change, and goes on.
+fn watch(rule: &[u8], signals: &[u8], log: &[u8], more: bool, out: &mut impl Write) -> io::Result<()> {
     let mut watcher = match Watcher::start(rule, signals) {
         Ok(watcher) => watcher,
         Err(refusal) => return writeln!(out, "{}", refused(refusal)),
     };
     for piece in log.chunks(LOG_RECORD_BYTES) {
         match watcher.feed(piece) {
+            Ok(word) if more => writeln!(out, "{} {word}{}", time_of(piece), asked(&watcher))?,
             Ok(word) => writeln!(out, "{} {word}", time_of(piece))?,
             Err(refusal) => writeln!(out, "{}", refused(refusal))?,
         }
@@ -45,5 +55,6 @@ fn main() -> io::Result<()> {
     let rule = bytes_of(arguments.next());
     let signals = bytes_of(arguments.next());
     let log = bytes_of(arguments.next());
-    watch(&rule, &signals, &log, &mut io::stdout().lock())
+    let more = arguments.next().as_deref() == Some("more");
+    watch(&rule, &signals, &log, more, &mut io::stdout().lock())
 }

@@ -41,6 +41,7 @@ extern "C" {
         area: *mut u64,
         area_words: usize,
     ) -> u8;
+    fn hunchcold_ask(state: *const u8, state_bytes: usize, area: *const u64, area_words: usize) -> u8;
     fn hunchcold_close(state: *mut u8, state_bytes: usize, area: *mut u64, area_words: usize) -> u8;
     fn hunchcold_horizon(state: *const u8, state_bytes: usize) -> u64;
 }
@@ -107,6 +108,11 @@ pub fn feed(state: &mut [u8], record: &[u8], area: &mut [u64]) -> u8 {
             area.len(),
         )
     }
+}
+
+/// How the log would end, were this the last record: the code of the verdict, or a refusal. Writes nothing.
+pub fn ask(state: &[u8], area: &[u64]) -> u8 {
+    unsafe { hunchcold_ask(state.as_ptr(), state.len(), area.as_ptr(), area.len()) }
 }
 
 /// Closes the log: the code of its verdict, or a refusal.

@@ -28,7 +28,7 @@ pub enum Refusal {
     LogTime,
     /// 10: the watcher is closed.
     AlreadyClosed,
-    /// 11: closing with no accepted record.
+    /// 11: asking or closing with no accepted record.
     NothingFed,
     /// 12: the state or the work area has not the shape of one that a watcher hands back: its rule or signal list is
     /// one that start would refuse, or a past row or the remainder is of a shape that no accepted call leaves there.
@@ -98,7 +98,7 @@ impl Refusal {
             Refusal::LogRecord => "log record is not 16 bytes or breaks the layout",
             Refusal::LogTime => "time is lower than the last accepted record's",
             Refusal::AlreadyClosed => "the watcher is closed",
-            Refusal::NothingFed => "closing with no accepted record",
+            Refusal::NothingFed => "asking or closing with no accepted record",
             Refusal::BrokenState => "state or work area have not the shape of a watcher's",
             Refusal::CodesLength => "codes are not one for each 16 bytes of the log and one for a short last piece",
             Refusal::StateLength => "state is not 280 bytes",

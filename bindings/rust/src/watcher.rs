@@ -62,6 +62,34 @@ impl Watcher {
         Word::of_code(raw::feed(&mut self.state, record, &mut self.area))
     }
 
+    /// How the log would end, were this the last record: what [`Watcher::close`] would answer now. Changes nothing, the
+    /// scratch of the work area neither, and the log goes on.
+    ///
+    /// ```
+    /// use hunchcold::{Refusal, Verdict, Watcher, Word};
+    ///
+    /// // Rain, within 0 to 5 minutes: true until signal 0.
+    /// let rule = [1, 0, 0, 0, 0, 0, 0, 0, 3, 0, 0, 0, 0, 0, 0, 0, 7, 0, 1, 0, 0, 5, 0, 0];
+    /// let signals = [5, 0, 1, 0, 0, 0, 0, 0];
+    /// let mut watcher = Watcher::start(&rule, &signals)?;
+    /// assert_eq!(watcher.ask(), Err(Refusal::NothingFed));
+    ///
+    /// // Dry at minute 7: were that the end, there was no rain. Rain at minute 9: it came in time.
+    /// let dry = [7, 0, 0, 0, 0, 0, 0, 0, 0, 0, 0, 0, 0, 0, 0, 0];
+    /// let wet = [9, 0, 0, 0, 0, 0, 0, 0, 0, 0, 1, 0, 0, 0, 0, 0];
+    /// assert_eq!(watcher.feed(&dry)?, Word::Pending);
+    /// assert_eq!(watcher.ask()?, Verdict::Broken);
+    /// assert_eq!(watcher.feed(&wet)?, Word::Pending);
+    /// assert_eq!(watcher.ask()?, Verdict::Kept);
+    /// # Ok::<(), Refusal>(())
+    /// ```
+    ///
+    /// # Errors
+    /// Refusals 10 and 11, in that order, and before them 91, 7 and 12 where parts were handed in.
+    pub fn ask(&self) -> Result<Verdict, Refusal> {
+        Verdict::of_code(raw::ask(&self.state, &self.area))
+    }
+
     /// Closes the log.
     ///
     /// # Errors

@@ -2,7 +2,7 @@
 
 mod house;
 
-use house::{record, watcher_a, RULE_A, SIGNALS};
+use house::{asked, record, watcher_a, RULE_A, SIGNALS};
 use hunchcold::Word::{self, Broken, Pending};
 use hunchcold::{run, Refusal, Verdict, Watcher};
 
@@ -11,7 +11,8 @@ const RULE_B: [u8; 32] = [
     3, 0, 0, 0, 0, 0, 0, 0, 3, 1, 0, 0, 0, 0, 0, 0, 9, 0, 1, 0, 1, 1, 0, 0, 6, 2, 0, 0, 0, 255, 0, 0,
 ];
 
-/// Feeds the records of one example and closes; the same must come from running the whole log.
+/// Feeds the records of one example and closes; the same must come from running the whole log. Asking after each record
+/// must answer how the log up to it ends.
 fn example(rule: &[u8], records: &[(u32, u8, u8)], words: &[Word], verdict: Verdict) {
     let mut watcher = Watcher::start(rule, &SIGNALS).expect("the rule is accepted");
     let mut said = Vec::new();
@@ -20,6 +21,8 @@ fn example(rule: &[u8], records: &[(u32, u8, u8)], words: &[Word], verdict: Verd
         let bytes = record(time, first, second);
         said.push(watcher.feed(&bytes));
         log.extend(bytes);
+        let so_far = run(rule, &SIGNALS, &log).expect("the rule is accepted");
+        assert_eq!(asked(&watcher), so_far.end);
     }
     let wanted: Vec<_> = words.iter().map(|&word| Ok(word)).collect();
     assert_eq!(said, wanted);
@@ -105,6 +108,20 @@ fn example_14() {
     assert_eq!(watcher, before);
     assert_eq!(watcher.would_refuse(&record(3, 1, 0)), None);
     assert_eq!(watcher.feed(&record(3, 1, 0)), Ok(Pending));
+}
+
+/// Asked after each record of example 1: without signal 1 the log would end broken, with it kept; the word is pending.
+#[test]
+fn asked_within_a_log() {
+    let mut watcher = watcher_a();
+    for (bytes, verdict) in [
+        (record(0, 1, 0), Verdict::Broken),
+        (record(1, 1, 0), Verdict::Broken),
+        (record(2, 0, 1), Verdict::Kept),
+    ] {
+        assert_eq!(watcher.feed(&bytes), Ok(Pending));
+        assert_eq!(asked(&watcher), Ok(verdict));
+    }
 }
 
 /// The horizon is high for rule A; rule B has none.

@@ -2,7 +2,7 @@
 
 mod house;
 
-use house::{record, watcher_a, RULE_A, SIGNALS};
+use house::{asked, record, watcher_a, RULE_A, SIGNALS};
 use hunchcold::{run, Refusal, Verdict, Watcher, Word, AREA_WORDS, STATE_BYTES};
 
 /// A watcher of rule A after one record, at minute 258, with signal 0.
@@ -18,6 +18,7 @@ fn refused(mut watcher: Watcher, refusal: Refusal) {
     let next = record(259, 0, 1);
     assert_eq!(watcher.would_refuse(&next), Some(refusal));
     assert_eq!(watcher.feed(&next), Err(refusal));
+    assert_eq!(watcher.ask(), Err(refusal));
     assert_eq!(watcher.close(), Err(refusal));
     assert_eq!(watcher, before);
 }
@@ -57,6 +58,7 @@ fn handed_in_again() {
     assert_eq!((state.len(), area.len()), (STATE_BYTES, AREA_WORDS));
     let mut again = Watcher::from_parts(state, area);
     assert_eq!(again, fed());
+    assert_eq!(asked(&again), Ok(Verdict::Broken));
     assert_eq!(again.feed(&record(261, 0, 1)), Ok(Word::Broken));
     assert_eq!(again.close(), Ok(Verdict::Broken));
 }
@@ -133,6 +135,18 @@ fn damaged_area() {
     assert!(watcher.parts().1[13 * 64..].iter().all(|&word| word == 0));
 }
 
+/// Asking leaves what the scratch holds; closing clears it.
+#[test]
+fn asked_over_scratch() {
+    let (state, mut area) = fed().into_parts();
+    area[13 * 64..].fill(u64::MAX);
+    let mut watcher = Watcher::from_parts(state, area.clone());
+    assert_eq!(asked(&watcher), Ok(Verdict::Broken));
+    assert_eq!(watcher.parts().1, area);
+    assert_eq!(watcher.close(), Ok(Verdict::Broken));
+    assert!(watcher.parts().1[13 * 64..].iter().all(|&word| word == 0));
+}
+
 /// A fresh state with another remainder passes 12, and the first record leaves it.
 #[test]
 fn other_remainder() {
@@ -140,6 +154,7 @@ fn other_remainder() {
     area[12 * 64] = 1;
     let mut watcher = Watcher::from_parts(state, area);
     assert_eq!(watcher.feed(&record(0, 0, 0)), Ok(Word::Kept));
+    assert_eq!(asked(&watcher), Ok(Verdict::Kept));
     assert_eq!(watcher.close(), Ok(Verdict::Kept));
     let own = run(&RULE_A, &SIGNALS, &record(0, 0, 0)).expect("rule A is accepted");
     assert_eq!(own.end, Ok(Verdict::Broken));

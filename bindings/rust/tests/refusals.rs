@@ -2,7 +2,7 @@
 
 mod house;
 
-use house::{record, watcher_a, RULE_A, SIGNALS};
+use house::{asked, record, watcher_a, RULE_A, SIGNALS};
 use hunchcold::{raw, run, Refusal, Verdict, Watcher, Word, AREA_WORDS, STATE_BYTES};
 
 /// Rule A with one byte changed.
@@ -65,6 +65,33 @@ fn closing() {
     assert_eq!(watcher.feed(&[]), Err(Refusal::AlreadyClosed));
     assert_eq!(watcher.would_refuse(&record(9, 0, 0)), Some(Refusal::AlreadyClosed));
     assert_eq!(watcher, closed);
+}
+
+/// Asking refuses as closing does, and in the same order: 91, 7, 12, then 10 or 11.
+#[test]
+fn asking() {
+    let mut watcher = watcher_a();
+    assert_eq!(asked(&watcher), Err(Refusal::NothingFed));
+    refused_in_order(&watcher);
+    assert_eq!(watcher.feed(&record(0, 0, 1)), Ok(Word::Pending));
+    assert_eq!(asked(&watcher), Ok(Verdict::Kept));
+    refused_in_order(&watcher);
+    assert_eq!(watcher.close(), Ok(Verdict::Kept));
+    assert_eq!(asked(&watcher), Err(Refusal::AlreadyClosed));
+    refused_in_order(&watcher);
+}
+
+/// A watcher with a byte behind its rule is refused with 12, with a short area as well with 7, and with 91 before all.
+fn refused_in_order(watcher: &Watcher) {
+    let (mut state, mut area) = watcher.clone().into_parts();
+    state[24] = 1;
+    let damaged = Watcher::from_parts(state.clone(), area.clone());
+    assert_eq!(asked(&damaged), Err(Refusal::BrokenState));
+    area.pop();
+    let damaged = Watcher::from_parts(state.clone(), area.clone());
+    assert_eq!(asked(&damaged), Err(Refusal::AreaLength));
+    state.pop();
+    assert_eq!(asked(&Watcher::from_parts(state, area)), Err(Refusal::StateLength));
 }
 
 /// A whole log goes on after refused pieces; one without an accepted record has no verdict.

@@ -3,11 +3,11 @@
 use mathlib.Core.Path.{_≡_, sym, ap, ap₂, _∙_, subst}
 use mathlib.Core.List.{List, [], _∷_}
 use Prim.Native.Nat.{ℕ}
-use Rattle.watcher.specs.Calls.{startOf, feedOf, closeOf}
+use Rattle.watcher.specs.Calls.{startOf, feedOf, askOf, closeOf}
 use Rattle.watcher.specs.Machine.{MachineBytes, MachineWords, MachineState}
 use Rattle.watcher.specs.Runs.{Held}
 use Rattle.watcher.proofs.Machines.{machine-start, machine-feed, machine-close}
-use Rattle.demands.specs.Watching.{defined, Call, feeding, closing, handed, handedOn, reached, MachineCall}
+use Rattle.demands.specs.Watching.{defined, Call, feeding, asking, closing, handed, handedOn, reached, MachineCall}
 use Rattle.demands.specs.Watching.{MachineCalls}
 use Rattle.port.specs.Layout.{written, stateIn}
 use Rattle.port.specs.Codes.{foundCode, answerCode, endCode}
@@ -15,7 +15,8 @@ use Rattle.port.proofs.ReadBack.{read-back}
 use Rattle.port.proofs.Machines.{written-bytes}
 use Rattle.carried.specs.Exporting.{Exports, MeetsExports}
 use Rattle.carried.specs.Calls.{Lent, lentOn, lentAll, lentAfter, CallsAreCarried}
-use Rattle.carried.proofs.Steps.{Carries, start-step, refuse-step, feed-step, close-step, wait-step}
+use Rattle.carried.proofs.Steps.{Carries, start-step, refuse-step, feed-step, ask-step, close-step}
+use Rattle.carried.proofs.Steps.{wait-step}
 
 -- what is lent is what the watcher holds, and a machine can hold it
 record Follows (l : Lent) (h : Held) : Type 0 where
@@ -37,6 +38,13 @@ module _ (f : Exports) (right : MeetsExports f) where
       ∙ right .feeds (written (h .state)) piece (h .area) (written-bytes (h .state) (s .state)) p (s .words)))
       (feed-step (h .state) (s .state) (h .area) piece)
 
+  ask-carries : (l : Lent) (h : Held) → Follows l h
+      → f .ask (l .bytes) (l .area) ≡ (endCode (askOf (h .state) (h .area)), written (h .state), h .area)
+  ask-carries l h s =
+      ap₂ (f .ask) (s .bytes) (s .area)
+      ∙ right .asks (written (h .state)) (h .area) (written-bytes (h .state) (s .state)) (s .words)
+      ∙ ap (λ n. (n, written (h .state), h .area)) (ask-step (h .state) (s .state) (h .area))
+
   close-carries : (l : Lent) (h : Held) → Follows l h
       → Carries (f .close (l .bytes) (l .area)) (endCode (closeOf (h .state) (h .area) .0 .answer))
       (closeOf (h .state) (h .area) .0 .next) (closeOf (h .state) (h .area) .1)
@@ -56,6 +64,14 @@ module _ (f : Exports) (right : MeetsExports f) where
       let o = feed-carries l h s piece p in
       let m = machine-feed (h .state) (s .state) piece (h .area) p (s .words) in
       record { bytes = o .bytes-are; area = o .area-is; state = m .0; words = m .1 }
+  one-follows l h asking s p =
+      let o = ask-carries l h s in
+      record {
+        bytes = ap (λ (x : ℕ × List ℕ × List ℕ). x .1) o;
+        area = ap (λ (x : ℕ × List ℕ × List ℕ). x .2) o;
+        state = s .state;
+        words = s .words;
+      }
   one-follows l h closing s p =
       let o = close-carries l h s in
       let m = machine-close (h .state) (s .state) (h .area) (s .words) in
@@ -97,6 +113,9 @@ module _ (f : Exports) (right : MeetsExports f) where
             (all .words)
             ∙ refuse-step (h .state) (all .state) (h .area) piece;
         fed = λ piece q. feed-carries l h all piece q .code-is;
+        asks =
+            ask-carries l h all
+            ∙ ap₂ (λ b ws. (endCode (askOf (h .state) (h .area)), b, ws)) (sym (all .bytes)) (sym (all .area));
         closed = close-carries l h all .code-is;
         waits =
             ap (f .horizon) (all .bytes)

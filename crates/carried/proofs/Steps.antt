@@ -8,12 +8,13 @@ use Rattle.ground.proofs.Tabs.{length-tab}
 use Rattle.watcher.specs.declared.state.Watcher.{Watcher}
 use Rattle.watcher.specs.declared.state.Found.{Found}
 use Rattle.watcher.specs.declared.state.Found.the-variants.{Fine, Refused}
-use Rattle.watcher.specs.Calls.{startOf, feedRefusal, feedWith, feedOf, closeRefusal, closeWith, closeOf, waitOf}
+use Rattle.watcher.specs.Calls.{startOf, feedRefusal, feedWith, feedOf, askOf, closeRefusal, closeWith, closeOf}
+use Rattle.watcher.specs.Calls.{waitOf}
 use Rattle.watcher.specs.Machine.{MachineState}
 use Rattle.port.specs.Layout.{stateBytes, byteAt, written}
 use Rattle.port.specs.Codes.{foundCode, toldOf, toldAt, answerCode, endCode, horizonCode}
 use Rattle.port.specs.Exports.{startedBytes, startBytes, refusalBytes, keptUnless, toldBytes, fedBytes}
-use Rattle.port.specs.Exports.{feedBytes, endedBytes, closeBytes, horizonBytes}
+use Rattle.port.specs.Exports.{feedBytes, askBytes, endedBytes, closeBytes, horizonBytes}
 use Rattle.port.proofs.ReadBack.{read-back}
 use Rattle.port.proofs.Exported.{right-one}
 
@@ -67,6 +68,11 @@ module _ (w : Watcher) (m : MachineState w) (ws : List ℕ) where
       (ap (λ v. fedBytes (feedOf v piece ws) (written w)) (read-back w m)
       ∙ right-one (written w) _ _ (length-written w))
       (record { code-is = refl; bytes-are = fed-written (feedRefusal w piece ws) w piece ws; area-is = refl })
+
+  pub ask-step : askBytes (written w) ws ≡ endCode (askOf w ws)
+  unfolding askBytes
+  ask-step =
+      sym (ap (λ v. endCode (askOf v ws)) (read-back w m) ∙ right-one (written w) _ _ (length-written w))
 
   pub close-step : Carries (closeBytes (written w) ws) (endCode (closeOf w ws .0 .answer)) (closeOf w ws .0 .next)
       (closeOf w ws .1)

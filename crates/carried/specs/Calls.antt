@@ -6,7 +6,7 @@ use lib.ListN.{length}
 use Rattle.watcher.specs.Calls.{startOf, feedRefusal, waitOf, zeroState}
 use Rattle.watcher.specs.Machine.{MachineBytes, MachineWords}
 use Rattle.watcher.specs.Runs.{Held}
-use Rattle.demands.specs.Watching.{defined, Call, feeding, closing, told, ending, reached, MachineCalls}
+use Rattle.demands.specs.Watching.{defined, Call, feeding, asking, closing, told, asked, ending, reached, MachineCalls}
 use Rattle.demands.specs.Tables.{startTable, feedTable, closeTable, Given}
 use Rattle.port.specs.Layout.{stateBytes, written, stateIn}
 use Rattle.port.specs.Codes.{stateLength, foundCode, answerCode, endCode, horizonCode}
@@ -22,6 +22,7 @@ module _ (f : Exports) where
   unfoldable pub lentOn : Lent → Call → Lent
   lentOn l (feeding piece) =
       record { bytes = f .feed (l .bytes) piece (l .area) .1; area = f .feed (l .bytes) piece (l .area) .2 }
+  lentOn l asking = record { bytes = f .ask (l .bytes) (l .area) .1; area = f .ask (l .bytes) (l .area) .2 }
   lentOn l closing = record { bytes = f .close (l .bytes) (l .area) .1; area = f .close (l .bytes) (l .area) .2 }
 
   unfoldable pub lentAll : Lent → List Call → Lent
@@ -49,6 +50,9 @@ pub record Carried (f : Exports) (rule signals bytes ws : List ℕ) (calls : Lis
   pub fed : (piece : List ℕ) → MachineBytes piece
       → let l : Lent = lentAfter f rule signals bytes ws calls in
       f .feed (l .bytes) piece (l .area) .0 ≡ answerCode (told defined (reached defined rule signals ws calls) piece)
+  pub asks : let l : Lent = lentAfter f rule signals bytes ws calls in
+      f .ask (l .bytes) (l .area)
+      ≡ (endCode (asked defined (reached defined rule signals ws calls)), l .bytes, l .area)
   pub closed : let l : Lent = lentAfter f rule signals bytes ws calls in
       f .close (l .bytes) (l .area) .0 ≡ endCode (ending defined (reached defined rule signals ws calls))
   pub waits : f .horizon (lentAfter f rule signals bytes ws calls .bytes)
@@ -67,6 +71,8 @@ pub record ExportsRefuse (f : Exports) : Type 0 where
       → MachineWords ws → (length bytes ≡ stateBytes → ⊥) → f .start rule signals bytes ws ≡ (stateLength, bytes, ws)
   pub feed-91 : (bytes piece ws : List ℕ) → MachineBytes bytes → MachineBytes piece → MachineWords ws
       → (length bytes ≡ stateBytes → ⊥) → f .feed bytes piece ws ≡ (stateLength, bytes, ws)
+  pub ask-91 : (bytes ws : List ℕ) → MachineBytes bytes → MachineWords ws → (length bytes ≡ stateBytes → ⊥)
+      → f .ask bytes ws ≡ (stateLength, bytes, ws)
   pub close-91 : (bytes ws : List ℕ) → MachineBytes bytes → MachineWords ws → (length bytes ≡ stateBytes → ⊥)
       → f .close bytes ws ≡ (stateLength, bytes, ws)
   pub start : (rule signals bytes ws : List ℕ) → MachineBytes rule → MachineBytes signals → MachineBytes bytes
@@ -75,5 +81,7 @@ pub record ExportsRefuse (f : Exports) : Type 0 where
   pub feed : (bytes piece ws : List ℕ) → MachineBytes bytes → MachineBytes piece → MachineWords ws
       → length bytes ≡ stateBytes → (n : ℕ) → Given (feedTable (stateIn bytes) piece ws) n
       → f .feed bytes piece ws ≡ (n, bytes, ws)
+  pub ask : (bytes ws : List ℕ) → MachineBytes bytes → MachineWords ws → length bytes ≡ stateBytes → (n : ℕ)
+      → Given (closeTable (stateIn bytes) ws) n → f .ask bytes ws ≡ (n, bytes, ws)
   pub close : (bytes ws : List ℕ) → MachineBytes bytes → MachineWords ws → length bytes ≡ stateBytes → (n : ℕ)
       → Given (closeTable (stateIn bytes) ws) n → f .close bytes ws ≡ (n, bytes, ws)

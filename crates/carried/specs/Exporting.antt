@@ -2,13 +2,15 @@
 use mathlib.Core.List.{List}
 use Prim.Native.Nat.{ℕ}
 use Rattle.watcher.specs.Machine.{MachineBytes, MachineWords}
-use Rattle.port.specs.Clauses.{StartClause, WouldRefuseClause, FeedClause, CloseClause, HorizonClause, RunClause}
+use Rattle.port.specs.Clauses.{StartClause, WouldRefuseClause, FeedClause, AskClause, CloseClause, HorizonClause}
+use Rattle.port.specs.Clauses.{RunClause}
 
 -- the code, and the lent lists afterwards: the state's bytes and the work area; in a run, the work area and the codes
 pub record Exports : Type 0 where
   pub start : (rule signals bytes ws : List ℕ) → ℕ × List ℕ × List ℕ
   pub refuses : (bytes piece ws : List ℕ) → ℕ
   pub feed : (bytes piece ws : List ℕ) → ℕ × List ℕ × List ℕ
+  pub ask : (bytes ws : List ℕ) → ℕ × List ℕ × List ℕ
   pub close : (bytes ws : List ℕ) → ℕ × List ℕ × List ℕ
   pub horizon : (bytes : List ℕ) → ℕ
   pub run : (rule signals log ws codes : List ℕ) → ℕ × List ℕ × List ℕ
@@ -21,6 +23,7 @@ pub record MeetsExports (f : Exports) : Type 0 where
       → WouldRefuseClause bytes piece ws (f .refuses bytes piece ws)
   pub feeds : (bytes piece ws : List ℕ) → MachineBytes bytes → MachineBytes piece → MachineWords ws
       → FeedClause bytes piece ws (f .feed bytes piece ws)
+  pub asks : (bytes ws : List ℕ) → MachineBytes bytes → MachineWords ws → AskClause bytes ws (f .ask bytes ws)
   pub closes : (bytes ws : List ℕ) → MachineBytes bytes → MachineWords ws → CloseClause bytes ws (f .close bytes ws)
   pub waits : (bytes : List ℕ) → MachineBytes bytes → HorizonClause bytes (f .horizon bytes)
   pub runs : (rule signals log ws codes : List ℕ) → MachineBytes rule → MachineBytes signals → MachineBytes log

@@ -1,6 +1,6 @@
--- No three functions of which the demands hold are one of the four bad watchers: example 2 shows it.
+-- No functions of which the demands hold are one of the bad watchers: examples 2 and 4 show it.
 -- Assumes nothing.
-use mathlib.Core.Path.{_≡_, sym, ap, _∙_, subst}
+use mathlib.Core.Path.{_≡_, refl, sym, ap, _∙_, subst}
 use mathlib.Core.Bool.{Bool, true, false}
 use mathlib.Core.List.{List, [], _∷_}
 use Prim.Native.Nat.{ℕ, _^_, _<_}
@@ -11,23 +11,27 @@ use Rattle.watcher.specs.declared.state.Word.the-variants as word
 use Rattle.watcher.specs.declared.state.Found.{Found}
 use Rattle.watcher.specs.declared.state.Found.the-variants.{Fine}
 use Rattle.watcher.specs.declared.state.Started.{Started}
+use Rattle.watcher.specs.declared.state.End.the-variants.{Closed}
 use Rattle.watcher.specs.Rules.{recordsOf}
 use Rattle.watcher.specs.Records.{entryOf}
 use Rattle.watcher.specs.Numbers.{saying, verdictFor, Says, foundAt, decided}
 use Rattle.watcher.specs.Calls.{startWith}
 use Rattle.watcher.specs.Runs.{Held}
 use Rattle.watcher.proofs.Reports.{says-fine}
-use Rattle.demands.specs.Watching.{Three, Call, feeding, closing, told, handed, handedOn, reached, MachineCall}
-use Rattle.demands.specs.Watching.{MachineCalls, Begun}
-use Rattle.demands.specs.Logs.{logWith, courseOf}
+use Rattle.demands.specs.Watching.{Functions, Call, feeding, closing, told, handed, handedOn, reached}
+use Rattle.demands.specs.Watching.{MachineCall, MachineCalls, Begun}
+use Rattle.demands.specs.Logs.{logWith, furtherBy, courseOf}
 use Rattle.demands.specs.Rewritten.{heldIn}
 use Rattle.demands.specs.Demands.{Demands, Decides}
+use Rattle.demands.specs.Asking.{Asking}
 use Rattle.demands.specs.Tables.{Carries}
 use Rattle.demands.specs.Examples.{vents}
 use Rattle.demands.specs.BadWatchers.{RefusesStarts, RefusesRecords, RefusesClosing, StartsUntouched}
-use Rattle.demands.specs.BadWatchers.{FeedsUntouched, ClosesUntouched, NeverSaysBroken, NeverEndsBroken, OnlyNods}
+use Rattle.demands.specs.BadWatchers.{FeedsUntouched, ClosesUntouched, NeverSaysBroken, NeverEndsBroken}
+use Rattle.demands.specs.BadWatchers.{AsksByWord, OnlyNods}
 use Rattle.demands.proofs.ExampleTwo.{area, area-first, rule, one, two, rule-bytes, signal-bytes, area-words}
-use Rattle.demands.proofs.ExampleTwo.{one-bytes, two-bytes, none-holds, logOne, course-one, takes-two, word-two}
+use Rattle.demands.proofs.ExampleTwo.{one-bytes, two-bytes, none-holds, logOne, takes-one, word-one, course-one}
+use Rattle.demands.proofs.ExampleTwo.{value-one, takes-two, word-two}
 use Rattle.demands.proofs.ExampleTwo.{course-two, course-closed, tells, tells-one, tells-two, tells-closed}
 
 -- what carries a number is no acceptance
@@ -62,7 +66,7 @@ called-closed : MachineCalls (feeding one ∷ closing ∷ [])
 unfolding MachineCalls MachineCall
 called-closed = (one-bytes, (tt, tt))
 
-module _ (f : Three) (d : Demands f) where
+module _ (f : Functions) (d : Demands f) where
   start-fine : (x : ℕ) → x < 2 → f .start rule vents (area x) .0 .found ≡ Fine
   start-fine x h =
       d .first .start rule vents (area x) rule-bytes signal-bytes (area-words x (small x h)) .fine .1 (none-holds x)
@@ -121,6 +125,20 @@ module _ (f : Three) (d : Demands f) where
   ends-broken never =
       never rule vents (area 0) begun (feeding one ∷ feeding two ∷ []) called-two
       (d .third .agrees rule vents (area 0) calls two false decides [] tt (logWith vents logOne two) course-two)
+
+  -- one that takes the word of the remainder for the value: example 4 is pending, and asking says broken
+  says-pending : Says (told f (held []) one) word.Pending
+  unfolding MachineCalls furtherBy logWith
+  says-pending =
+      subst (Says (told f (held []) one)) word-one
+      (d .second .word rule vents (area 0) begun [] tt [] refl one one-bytes takes-one)
+
+  pub not-by-word : Asking f → AsksByWord f → ⊥
+  unfolding MachineCalls verdictFor
+  not-by-word a never =
+      never rule vents (area 0) begun [] tt one one-bytes says-pending
+      (a .reports rule vents (area 0) begun calls called (entryOf vents (recordsOf vents) one) [] course-one
+      ∙ ap (λ b. Closed (verdictFor b)) value-one)
 
   -- one that never touches the area: two areas start alike
   pub touches-start : StartsUntouched f → ⊥

@@ -28,7 +28,8 @@ use Rattle.watcher.specs.Calls.{wrongArea, isClosed, isFresh, tooEarly, startOf
 use Rattle.watcher.specs.Calls.{freshState, runningState, closedState, feedRefusal, closeRefusal}
 use Rattle.watcher.specs.Runs.{Held}
 use Rattle.watcher.proofs.Decoded.{Accepted}
-use Rattle.demands.specs.Watching.{defined, Call, feeding, closing, told, ending, handed, handedOn, reached}
+use Rattle.demands.specs.Watching.{defined, Call, feeding, asking, closing, told, ending, handed, handedOn}
+use Rattle.demands.specs.Watching.{reached}
 use Rattle.demands.specs.Logs.{lastTime, accepts, logWith, Course, going, over, further, furtherBy, courseOf}
 use Rattle.demands.specs.Logs.{logIn}
 use Rattle.demands.specs.Rewritten.{readRule, parametersIn, heldKnown, heldAfter, heldClosed, heldIn, wordAfter}
@@ -59,6 +60,11 @@ close-stays h r e =
       ap (λ (x : Ended × List ℕ). x .0 .answer) o,
       ap (λ (x : Ended × List ℕ). record { state = x .0 .next; area = x .1 }) o,
     )
+
+-- asking always does
+pub ask-stays : (h : Held) → handed defined h asking ≡ h
+unfolding defined handed
+ask-stays h = refl
 
 -- refusals 7 and 12 are not given
 abbrev pub Sound : Held → Type 0
@@ -209,9 +215,11 @@ module _ (rule signals : List ℕ) (fine : Accepted rule signals) where
       → handed defined (heldIn rule signals course) c ≡ heldIn rule signals (further signals course c)
   unfolding heldIn further logIn
   call-further (going log) (feeding bytes) r = feed-further log r bytes
+  call-further (going log) asking r = ask-stays (heldAfter rule signals log)
   call-further (going []) closing r = close-none .1
   call-further (going (e ∷ es)) closing r = close-some e es r .1
   call-further (over e es) (feeding bytes) r = closed-stays e es r bytes .0 .1
+  call-further (over e es) asking r = ask-stays (heldClosed rule signals e es)
   call-further (over e es) closing r = closed-stays e es r [] .1 .1
 
   -- calls one after another

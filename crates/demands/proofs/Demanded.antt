@@ -1,4 +1,4 @@
--- The owner's three demands hold of any three functions that meet the clauses of start, feed and close.
+-- The owner's three demands hold of any functions that meet the clauses of start, feed, ask and close.
 -- Assumes nothing.
 use mathlib.Core.Path.{_≡_, refl, sym, ap, _∙_, subst}
 use mathlib.Core.Bool.{false, not, cond}
@@ -27,7 +27,7 @@ use Rattle.watcher.specs.Calls.{closeRefusal, closeWith, closeOf}
 use Rattle.watcher.specs.Machine.{MachineBytes}
 use Rattle.watcher.proofs.Decoded.{Accepted}
 use Rattle.watcher.proofs.Speed.{wind-exact}
-use Rattle.demands.specs.Watching.{Three, Meets, defined, Call, feeding, told, ending, reached, MachineCall}
+use Rattle.demands.specs.Watching.{Functions, Meets, defined, Call, feeding, told, ending, reached, MachineCall}
 use Rattle.demands.specs.Watching.{MachineCalls, Begun}
 use Rattle.demands.specs.Logs.{logWith, going, courseOf, logIn}
 use Rattle.demands.specs.Rewritten.{heldIn, wordAfter}
@@ -53,7 +53,7 @@ feed-tabled : (w : Watcher) (bytes ws : List ℕ) → AsTable (feedTable w bytes
 unfolding feedRefusal stateTests refusalNumber
 feed-tabled w bytes ws = as-table _
 
-close-tabled : (w : Watcher) (ws : List ℕ) → AsTable (closeTable w ws) (closeRefusal w ws)
+pub close-tabled : (w : Watcher) (ws : List ℕ) → AsTable (closeTable w ws) (closeRefusal w ws)
 unfolding closeRefusal stateTests refusalNumber
 close-tabled w ws = as-table _
 
@@ -112,7 +112,14 @@ wind-is-exact list count n bytes h most wind =
     ∙ ap (λ met. cond (eqb (byteOf list n 1) 0) met (not met))
     (ap (λ channel. meets bytes channel (limitOf list n)) wind ∙ wind-exact bytes (limitOf list n))
 
-module _ (f : Three) (right : Meets f) where
+-- calls with a record and more behind them
+pub machine-more : (calls : List Call) (bytes : List ℕ) (more : List Call) → MachineCalls calls → MachineBytes bytes
+    → MachineCalls more → MachineCalls (calls ++ (feeding bytes ∷ more))
+unfolding MachineCalls MachineCall
+machine-more [] bytes more a p b = (p, b)
+machine-more (c ∷ calls) bytes more a p b = (a .0, machine-more calls bytes more (a .1) p b)
+
+module _ (f : Functions) (right : Meets f) where
   pub first-demand : Demand1 f
   first-demand =
       record {
@@ -200,13 +207,6 @@ module _ (f : Three) (right : Meets f) where
         let same = told-is f right rule signals ws begun calls machine bytes p in
         word-told rule signals (accepted begun) (courseOf signals calls)
         (course-right rule signals (accepted begun) calls) bytes w (subst (λ x. Says x w) same s)
-
-    -- calls with a record and more behind them
-    machine-more : (calls : List Call) (bytes : List ℕ) (more : List Call) → MachineCalls calls → MachineBytes bytes
-        → MachineCalls more → MachineCalls (calls ++ (feeding bytes ∷ more))
-    unfolding MachineCalls MachineCall
-    machine-more [] bytes more a p b = (p, b)
-    machine-more (c ∷ calls) bytes more a p b = (a .0, machine-more calls bytes more (a .1) p b)
 
     word-holds : WordHolds f rule signals ws
     word-holds calls bytes b d more =

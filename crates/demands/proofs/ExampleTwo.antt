@@ -1,7 +1,8 @@
--- Example 2 as a run: its records are accepted, and what the rewriting gives for them.
+-- Example 2 as a run: its records are accepted, and what the rewriting gives for them. Its first record alone is
+-- example 4.
 -- Assumes nothing.
 use mathlib.Core.Path.{_≡_, refl, sym, ap, _∙_, subst}
-use mathlib.Core.Bool.{Bool, true, and-eq-true-iff}
+use mathlib.Core.Bool.{Bool, true, false, and-eq-true-iff}
 use mathlib.Core.Logic.{⊎-elim}
 use mathlib.Core.List.{List, [], _∷_}
 use Prim.Native.Nat.{ℕ, zero, suc, _^_, _≤_, _<_}
@@ -22,19 +23,20 @@ use Rattle.watcher.specs.declared.state.Word.the-variants as told
 use Rattle.watcher.specs.Limits.{mostParameters, areaWords}
 use Rattle.watcher.specs.Rules.{recordsOf}
 use Rattle.watcher.specs.Records.{entryOf}
-use Rattle.watcher.specs.Numbers.{saying, Says}
+use Rattle.watcher.specs.declared.state.End.the-variants.{Closed}
+use Rattle.watcher.specs.Numbers.{saying, Says, verdictFor, verdictValue}
 use Rattle.watcher.specs.declared.state.Found.the-variants.{Fine}
 use Rattle.watcher.specs.Calls.{startRefusal}
 use Rattle.watcher.specs.Machine.{MachineBytes, MachineWords}
 use Rattle.watcher.proofs.Decoded.{Accepted}
-use Rattle.demands.specs.Watching.{defined, feeding, closing, told, handedOn, reached}
+use Rattle.demands.specs.Watching.{defined, feeding, closing, told, ending, handedOn, reached}
 use Rattle.demands.specs.Logs.{accepts, logWith, going, over, further, furtherBy, courseOf, logIn}
 use Rattle.demands.specs.Rewritten.{readRule, parametersIn, heldKnown, heldAfter, heldClosed, heldIn, wordAfter}
 use Rattle.demands.specs.Tables.{startTable, NoneHolds}
-use Rattle.demands.specs.Examples.{table, Answers, ruleA, vents, at, Run, allIn}
+use Rattle.demands.specs.Examples.{table, Answers, ruleA, vents, at, EndsWith, Run, allIn}
 use Rattle.demands.proofs.OwnStates.{start-accepted, few-parameters}
 use Rattle.demands.proofs.Logs.{right-none, right-taken, further-parts}
-use Rattle.demands.proofs.Courses.{run-state}
+use Rattle.demands.proofs.Courses.{close-some, run-state}
 use Rattle.demands.proofs.Following.{start-found}
 use Rattle.demands.proofs.Demanded.{start-tabled}
 use Rattle.demands.proofs.Deciding.{Told, word-told, going-with}
@@ -126,10 +128,10 @@ told-one =
 log-one : going [] ≡ going (told-one .log) → told-one .log ≡ []
 log-one e = cc
 
-takes-one : accepts [] one ≡ true
+pub takes-one : accepts [] one ≡ true
 takes-one = subst (λ log. accepts log one ≡ true) (log-one (told-one .goes)) (told-one .takes)
 
-word-one : saying (wordAfter rule logOne) ≡ told.Pending
+pub word-one : saying (wordAfter rule logOne) ≡ told.Pending
 unfolding logWith
 word-one =
     subst (λ log. saying (wordAfter rule (logWith vents log one)) ≡ told.Pending) (log-one (told-one .goes))
@@ -138,6 +140,26 @@ word-one =
 pub course-one : courseOf vents (feeding one ∷ []) ≡ going logOne
 unfolding furtherBy logWith
 course-one = going-with vents [] [] one [] refl takes-one
+
+-- were the first record the last, the rule would be broken: example 4
+fourth-run : Run rule vents (one ∷ []) (pending ∷ []) broken (area 0)
+unfolding table Answers
+fourth-run = table-answered .1 .1 .1 .0 (area 0) (area-long 0)
+
+broken-false : (b : Bool) → EndsWith (Closed (verdictFor b)) broken → b ≡ false
+unfolding EndsWith verdictFor verdictValue wordOf
+broken-false true e = let z : _≡_ {A = ℕ} 0 1 = cc in let no : ⊥ = omega arith in absurd no
+broken-false false e = refl
+
+pub value-one : valueOf logOne (readRule rule) ≡ false
+unfolding heldIn logWith
+value-one =
+    broken-false (valueOf logOne (readRule rule))
+    (subst (λ a. EndsWith a broken)
+    (ap (ending defined)
+    (run-state rule vents (area 0) start (feeding one ∷ []) ∙ ap (heldIn rule vents) course-one)
+    ∙ close-some rule vents fine (entryOf vents (recordsOf vents) one) []
+    (right-taken vents [] one (right-none vents) takes-one) .0) (fourth-run .ends))
 
 -- the second record is accepted, and its word is broken
 says-two : Says (told defined (heldAfter rule vents logOne) two) told.Broken

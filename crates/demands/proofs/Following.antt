@@ -1,10 +1,11 @@
--- Three functions that meet the clauses go the way of the definitions, on everything that a machine can hand in.
+-- Functions that meet the clauses go the way of the definitions, on everything that a machine can hand in.
 -- Assumes nothing.
 use mathlib.Core.Path.{_≡_, refl, sym, ap, _∙_, subst}
 use mathlib.Core.List.{List, [], _∷_}
 use Prim.Native.Nat.{ℕ}
 use Rattle.watcher.specs.declared.state.Started.{Started}
 use Rattle.watcher.specs.declared.state.Fed.{Fed}
+use Rattle.watcher.specs.declared.state.End.{End}
 use Rattle.watcher.specs.declared.state.Ended.{Ended}
 use Rattle.watcher.specs.declared.state.Found.{Found}
 use Rattle.watcher.specs.declared.state.Found.the-variants.{Fine, Refused}
@@ -12,8 +13,8 @@ use Rattle.watcher.specs.Machine.{MachineBytes, MachineWords, MachineState}
 use Rattle.watcher.specs.Calls.{startRefusal, startWith, startOf}
 use Rattle.watcher.specs.Runs.{Held}
 use Rattle.watcher.proofs.Machines.{machine-start, machine-feed, machine-close}
-use Rattle.demands.specs.Watching.{Three, Meets, defined, Call, feeding, closing, told, ending, handed, handedOn}
-use Rattle.demands.specs.Watching.{reached, MachineCall, MachineCalls, Begun}
+use Rattle.demands.specs.Watching.{Functions, Meets, defined, Call, feeding, asking, closing, told, ending}
+use Rattle.demands.specs.Watching.{handed, handedOn, reached, MachineCall, MachineCalls, Begun}
 use Rattle.demands.specs.Logs.{courseOf}
 use Rattle.demands.specs.Rewritten.{heldIn}
 use Rattle.demands.proofs.Courses.{run-state}
@@ -25,6 +26,7 @@ defined-meets =
     record {
       starts = λ rule signals ws r s b. refl;
       feeds = λ w bytes ws s p b. refl;
+      asks = λ w ws s b. refl;
       closes = λ w ws s b. refl;
     }
 
@@ -41,7 +43,7 @@ start-found rule signals ws = go (startRefusal rule signals ws)
     go Fine = refl
     go (Refused r) = refl
 
-module _ (f : Three) (right : Meets f) where
+module _ (f : Functions) (right : Meets f) where
   one-same : (h : Held) (c : Call) → MachineHeld h → MachineCall c
       → (handed f h c ≡ handed defined h c) × MachineHeld (handed defined h c)
   unfolding handed defined MachineCall
@@ -50,11 +52,20 @@ module _ (f : Three) (right : Meets f) where
         (right .feeds (h .state) bytes (h .area) (m .0) p (m .1)),
     machine-feed (h .state) (m .0) bytes (h .area) p (m .1),
   )
+  one-same h asking m p = (
+    ap (λ (o : End × List ℕ). record { state = h .state; area = o .1 })
+        (right .asks (h .state) (h .area) (m .0) (m .1)),
+    m,
+  )
   one-same h closing m p = (
     ap (λ (o : Ended × List ℕ). record { state = o .0 .next; area = o .1 })
         (right .closes (h .state) (h .area) (m .0) (m .1)),
     machine-close (h .state) (m .0) (h .area) (m .1),
   )
+
+  -- so it is with what they hand on
+  pub one-held : (h : Held) (c : Call) → MachineHeld h → MachineCall c → MachineHeld (handed f h c)
+  one-held h c m p = let o = one-same h c m p in subst MachineHeld (sym (o .0)) (o .1)
 
   all-same : (h : Held) (calls : List Call) → MachineHeld h → MachineCalls calls
       → (handedOn f h calls ≡ handedOn defined h calls) × MachineHeld (handedOn defined h calls)
@@ -94,6 +105,9 @@ module _ (f : Three) (right : Meets f) where
 
       pub reached-machine : MachineHeld (heldIn rule signals (courseOf signals calls))
       reached-machine = subst MachineHeld (run-state rule signals ws start-fine calls) (both-same .1)
+
+      pub reached-held : MachineHeld (reached f rule signals ws calls)
+      reached-held = subst MachineHeld (sym reached-is) reached-machine
 
       -- and the answers are the definitions'
       pub told-is : (bytes : List ℕ) → MachineBytes bytes

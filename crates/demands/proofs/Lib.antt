@@ -10,6 +10,7 @@ pub mod Tabled
 pub mod Following
 pub mod Deciding
 pub mod Demanded
+pub mod Asking
 pub mod OwnWork
 pub mod Answered
 pub mod ExampleTwo

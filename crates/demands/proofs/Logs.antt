@@ -15,7 +15,7 @@ use Rattle.meaning.proofs.Shapes.{first-shape, feed-shape}
 use Rattle.meaning.proofs.Settling.{climbs-rising, last-after}
 use Rattle.watcher.specs.Rules.{recordsOf}
 use Rattle.watcher.specs.Records.{timeOf, entryOf}
-use Rattle.demands.specs.Watching.{Call, feeding, closing}
+use Rattle.demands.specs.Watching.{Call, feeding, asking, closing}
 use Rattle.demands.specs.Logs.{lastTime, accepts, logWith, Course, going, over, further, furtherBy, logIn}
 use Rattle.demands.specs.Rewritten.{readRule, parametersIn}
 use Rattle.demands.proofs.Padding.{entry-below}
@@ -152,6 +152,7 @@ right-further signals (going log) (feeding bytes) r = go (judge log bytes)
         subst (λ b. Right signals (cond b (logWith signals log bytes) log)) (sym a) (right-more signals log bytes r h)
     go (wrong a w) = subst (λ b. Right signals (cond b (logWith signals log bytes) log)) (sym a) r
     go (early a w h) = subst (λ b. Right signals (cond b (logWith signals log bytes) log)) (sym a) r
+right-further signals (going log) asking r = r
 right-further signals (going []) closing r = r
 right-further signals (going (e ∷ es)) closing r = r
 right-further signals (over e es) c r = r
@@ -186,6 +187,7 @@ further-one signals (going log) (feeding bytes) = go (accepts log bytes)
     go : (b : Bool) → (more : List Entry) × (cond b (logWith signals log bytes) log ≡ log ++ more)
     go true = (entryOf signals (recordsOf signals) bytes ∷ [], refl)
     go false = ([], sym (append-nil log))
+further-one signals (going log) asking = ([], sym (append-nil log))
 further-one signals (going []) closing = ([], refl)
 further-one signals (going (e ∷ es)) closing = ([], sym (append-nil (e ∷ es)))
 further-one signals (over e es) c = ([], sym (append-nil (e ∷ es)))

@@ -17,7 +17,7 @@ use Rattle.watcher.specs.Calls.{freshState, runningState, closedState, waitOf}
 use Rattle.watcher.specs.Machine.{MachineBytes}
 use Rattle.watcher.specs.Runs.{Held}
 use Rattle.watcher.proofs.Decoded.{Accepted}
-use Rattle.demands.specs.Watching.{Three, Meets, defined, closing, told, ending, handed, reached}
+use Rattle.demands.specs.Watching.{Functions, Meets, defined, closing, told, ending, handed, reached}
 use Rattle.demands.specs.Watching.{MachineCall}
 use Rattle.demands.specs.Logs.{lastTime, Course, going, over, courseOf, logIn}
 use Rattle.demands.specs.Rewritten.{readRule, parametersIn, heldKnown, heldAfter, heldClosed, heldIn}
@@ -30,6 +30,7 @@ use Rattle.demands.proofs.Courses.{Sound, ready-after, wrong-stays, ear
 use Rattle.demands.proofs.Courses.{closed-stays, sound-in}
 use Rattle.demands.proofs.Deciding.{course-right}
 use Rattle.demands.proofs.Following.{start-fine, reached-is, told-is, ending-is, handed-is}
+use Rattle.demands.proofs.Asking.{asks-ending}
 
 module _ (rule signals : List ℕ) (fine : Accepted rule signals) where
   -- closing leaves the past rows
@@ -59,7 +60,7 @@ module _ (rule signals : List ℕ) (fine : Accepted rule signals) where
   wait-held (going (e ∷ es)) = wait-in (phase.Running _ _)
   wait-held (over e es) = wait-in (phase.Closed _)
 
-module _ (f : Three) (right : Meets f) where
+module _ (f : Functions) (right : Meets f) where
   pub own-work : OwnWorkIsFine f
   unfolding heldIn logIn foundIn foundAt Carries refusalNumber MachineCall
   own-work rule signals ws begun calls machine =
@@ -97,6 +98,7 @@ module _ (f : Three) (right : Meets f) where
             λ c.
             ended-by (going []) c 11
             (λ l. subst (λ x. Carries (foundAt x) 11) (sym (close-none rule signals fine .0)) refl);
+        asks = asks-ending f right rule signals ws begun calls machine;
         past =
             λ j h.
             ap (λ (x : Held). rowAt (x .area) j) (handed-is f right rule signals ws begun calls machine closing tt)

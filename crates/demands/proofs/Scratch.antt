@@ -1,6 +1,6 @@
 -- The work area of an accepted call: what the scratch holds at entry does not count.
 -- Assumes nothing.
-use mathlib.Core.Path.{_≡_, sym, ap, _∙_}
+use mathlib.Core.Path.{_≡_, refl, sym, ap, _∙_}
 use mathlib.Core.Bool.{false, not}
 use mathlib.Core.List.{List, _++_}
 use Prim.Native.Nat.{ℕ, _+_, _≤_}
@@ -14,9 +14,11 @@ use Rattle.meaning.specs.Words.{Known, leave, feed, close, valueIfLast}
 use Rattle.rewriting.specs.Known.{formAt, knownIn, areaOf}
 use Rattle.rewriting.proofs.TidyRows.{form-same, known-same}
 use Rattle.watcher.specs.declared.state.Watcher.{Watcher}
+use Rattle.watcher.specs.declared.state.Found.{Found}
 use Rattle.watcher.specs.declared.state.Found.the-variants as found
 use Rattle.watcher.specs.declared.state.Answer.the-variants as answer
 use Rattle.watcher.specs.declared.state.End.the-variants as end
+use Rattle.watcher.specs.declared.state.Ended.{Ended}
 use Rattle.watcher.specs.Limits.{mostParameters, listBytes, areaWords}
 use Rattle.watcher.specs.Numbers.{verdictFor, Stage, fresh, running, closed, stageOf, lastIn}
 use Rattle.watcher.specs.State.{ruleOf, parametersOf, startRefuses, brokenState}
@@ -24,9 +26,10 @@ use Rattle.watcher.specs.Records.{entryOf}
 use Rattle.watcher.specs.Lists.{Test, firstRefusal}
 use Rattle.watcher.specs.Calls.{wrongArea, stateTests, startRefusal, feedRefusal, closeRefusal}
 use Rattle.watcher.specs.Calls.{startWith, startOf, feedWith, feedOf, closeWith, closeOf, knownNext, knownNow}
-use Rattle.watcher.specs.Calls.{runningState, reportOf, closedState}
+use Rattle.watcher.specs.Calls.{runningState, reportOf, closedState, askWith, askOf}
 use Rattle.demands.specs.Areas.{Alike}
 use Rattle.watcher.proofs.HeldLaws.{held-few}
+use Rattle.watcher.proofs.Asking.{ask-as-close}
 use Rattle.watcher.proofs.Decoded.{first-fine}
 use Rattle.watcher.proofs.Breaking.{unbroken, broken-same}
 
@@ -124,3 +127,14 @@ module _ (a b : List ℕ) (alike : Alike a b) where
         ))
         (now-same (few (lists-sound w a _ e)) (stageOf (w .phase)))
         ∙ sym (ap (λ f. closeWith f w b) (sym close-refusal-same ∙ e))
+
+    -- and asking, refused or not, has the same answer
+    pub ask-same : askOf w a ≡ askOf w b
+    unfolding askOf askWith
+    ask-same = go (closeRefusal w a) refl
+      where
+        go : (f : Found) → closeRefusal w a ≡ f → askWith (closeRefusal w a) w a ≡ askWith (closeRefusal w b) w b
+        go found.Fine e =
+            ask-as-close w a ∙ ap (λ (o : Ended × List ℕ). o .0 .answer) (close-same e) ∙ sym (ask-as-close w b)
+        go (found.Refused r) e =
+            ap (λ f. askWith f w a) e ∙ sym (ap (λ f. askWith f w b) (sym close-refusal-same ∙ e))

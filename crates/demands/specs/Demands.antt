@@ -1,6 +1,6 @@
--- The owner's three demands (document 00), of three functions with the types of start, feed and close, on everything
+-- The owner's three demands (document 00), of functions with the types of start, feed, ask and close, on everything
 -- that a machine can hand in. `crates/watcher` has the functions, and each demand is proved of any that meet its
--- clauses.
+-- clauses. Runs are of any calls, asks among them; what is promised of asking itself is in `Asking.antt`.
 use mathlib.Core.Path.{_≡_}
 use mathlib.Core.Bool.{Bool, true, not, cond}
 use mathlib.Core.List.{List, [], _∷_, _++_}
@@ -21,14 +21,14 @@ use Rattle.watcher.specs.Speed.{notSlower, perSecond, windSpeed}
 use Rattle.watcher.specs.Numbers.{saying, decided, Says, foundIn, foundAt, verdictFor}
 use Rattle.watcher.specs.Calls.{zeroState, startWith, feedWith, closeWith}
 use Rattle.watcher.specs.Machine.{MachineBytes, MachineWords, MachineState}
-use Rattle.demands.specs.Watching.{Three, Call, feeding, told, ending, reached, MachineCalls, Begun}
+use Rattle.demands.specs.Watching.{Functions, Call, feeding, told, ending, reached, MachineCalls, Begun}
 use Rattle.demands.specs.Logs.{lastTime, accepts, logWith, going, courseOf, logOf}
 use Rattle.demands.specs.Rewritten.{readRule, heldIn, wordAfter}
 use Rattle.demands.specs.Tables.{startTable, feedTable, closeTable, NoneHolds, Carries, AsTable}
 
 -- Demand 1: everything handed in gets an answer, and a refusal carries the number from the table, is given exactly
 -- when the table says, and changes neither state nor work area; a refused start gives a fresh state of zeros.
-pub record Demand1 (f : Three) : Type 0 where
+pub record Demand1 (f : Functions) : Type 0 where
   pub start : (rule signals ws : List ℕ) → MachineBytes rule → MachineBytes signals → MachineWords ws
       → AsTable (startTable rule signals ws) (f .start rule signals ws .0 .found)
   pub feed : (w : Watcher) (bytes ws : List ℕ) → MachineState w → MachineBytes bytes → MachineWords ws
@@ -47,7 +47,7 @@ pub record Demand1 (f : Three) : Type 0 where
 
 -- Demand 2, of every call that no test refuses, whatever state and area are handed in: answer, next state and the whole
 -- area are what the rewriting gives, as `crates/watcher/specs/Calls.antt` has it.
-pub record Rewrites (f : Three) : Type 0 where
+pub record Rewrites (f : Functions) : Type 0 where
   pub start : (rule signals ws : List ℕ) → MachineBytes rule → MachineBytes signals → MachineWords ws
       → NoneHolds (startTable rule signals ws) → f .start rule signals ws ≡ startWith Fine rule signals ws
   pub feed : (w : Watcher) (bytes ws : List ℕ) → MachineState w → MachineBytes bytes → MachineWords ws
@@ -56,7 +56,7 @@ pub record Rewrites (f : Three) : Type 0 where
       → NoneHolds (closeTable w ws) → f .close w ws ≡ closeWith Fine w ws
 
 -- Of a run: start accepted rule and signals, then come any calls, with state and work area handed on untouched.
-module _ (f : Three) (rule signals ws : List ℕ) where
+module _ (f : Functions) (rule signals ws : List ℕ) where
   -- closing the log reports the value that the rule has at its first record
   abbrev pub ClosingReports : Type 0
   ClosingReports =
@@ -86,7 +86,7 @@ WindIsExact =
     ≡ (let met : Bool = notSlower (windSpeed bytes) (perSecond (limitOf list n)) in
     cond (eqb (byteOf list n 1) 0) met (not met))
 
-pub record Demand2 (f : Three) : Type 0 where
+pub record Demand2 (f : Functions) : Type 0 where
   pub calls : Rewrites f
   pub reports : (rule signals ws : List ℕ) → ClosingReports f rule signals ws
   pub state : (rule signals ws : List ℕ) → StateIsRewritten f rule signals ws
@@ -94,13 +94,14 @@ pub record Demand2 (f : Three) : Type 0 where
   pub wind : WindIsExact
 
 -- Demand 3, of a run in which a record gets the word kept (broken).
-pub record Decides (f : Three) (rule signals ws : List ℕ) (calls : List Call) (bytes : List ℕ) (b : Bool) : Type 0 where
-  pub begun : Begun f rule signals ws
-  pub called : MachineCalls calls
-  pub fed : MachineBytes bytes
-  pub says : Says (told f (reached f rule signals ws calls) bytes) (decided b)
+pub record Decides (f : Functions) (rule signals ws : List ℕ) (calls : List Call) (bytes : List ℕ) (b : Bool) : Type 0
+  where
+    pub begun : Begun f rule signals ws
+    pub called : MachineCalls calls
+    pub fed : MachineBytes bytes
+    pub says : Says (told f (reached f rule signals ws calls) bytes) (decided b)
 
-module _ (f : Three) (rule signals ws : List ℕ) where
+module _ (f : Functions) (rule signals ws : List ℕ) where
   -- every continuation with times that never fall, and stopping there, makes the rule true (false) of the whole log
   abbrev pub WordHolds : Type 0
   WordHolds =
@@ -139,7 +140,7 @@ module _ (f : Three) (rule signals ws : List ℕ) where
   abbrev pub HorizonDecides : Type 0
   HorizonDecides = Begun f rule signals ws → (h : ℕ) → horizon (readRule rule) ≡ within h → DecidedBy h
 
-pub record Demand3 (f : Three) : Type 0 where
+pub record Demand3 (f : Functions) : Type 0 where
   pub holds : (rule signals ws : List ℕ) → WordHolds f rule signals ws
   pub stays : (rule signals ws : List ℕ) → WordStays f rule signals ws
   pub agrees : (rule signals ws : List ℕ) → ClosingAgrees f rule signals ws
@@ -147,7 +148,7 @@ pub record Demand3 (f : Three) : Type 0 where
   pub horizon : (rule signals ws : List ℕ) → HorizonDecides f rule signals ws
 
 -- all three
-pub record Demands (f : Three) : Type 0 where
+pub record Demands (f : Functions) : Type 0 where
   pub first : Demand1 f
   pub second : Demand2 f
   pub third : Demand3 f

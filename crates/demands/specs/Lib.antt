@@ -4,6 +4,7 @@ pub mod Rewritten
 pub mod Areas
 pub mod Tables
 pub mod Demands
+pub mod Asking
 pub mod OwnWork
 pub mod Handed
 pub mod BadWatchers

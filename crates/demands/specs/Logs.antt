@@ -7,7 +7,7 @@ use lib.ListN.{length}
 use Rattle.meaning.specs.Rule.{Entry, timeAt}
 use Rattle.watcher.specs.Rules.{recordsOf}
 use Rattle.watcher.specs.Records.{wrongRecord, timeOf, entryOf}
-use Rattle.demands.specs.Watching.{Call, feeding, closing}
+use Rattle.demands.specs.Watching.{Call, feeding, asking, closing}
 
 -- the time of the last record of a log; 0 before the first, and no time is lower
 unfoldable pub lastTime : List Entry → ℕ
@@ -26,9 +26,11 @@ pub data Course : Type 0 where
   going : List Entry → Course
   over : Entry → List Entry → Course
 
--- a call brings a log further: a refused record, closing without a record, and any call after closing count for nothing
+-- a call brings a log further: a refused record, asking, closing without a record, and any call after closing count
+-- for nothing
 unfoldable pub further : (signals : List ℕ) → Course → Call → Course
 further signals (going log) (feeding bytes) = going (cond (accepts log bytes) (logWith signals log bytes) log)
+further signals (going log) asking = going log
 further signals (going []) closing = going []
 further signals (going (e ∷ es)) closing = over e es
 further signals (over e es) c = over e es

@@ -12,13 +12,14 @@ use Rattle.watcher.specs.State.{brokenState}
 use Rattle.watcher.specs.Calls.{wrongArea, waitOf}
 use Rattle.watcher.specs.Machine.{MachineBytes}
 use Rattle.watcher.specs.Numbers.{foundIn, foundAt}
-use Rattle.demands.specs.Watching.{Three, Call, closing, told, ending, handed, reached, MachineCalls, Begun}
+use Rattle.demands.specs.Watching.{Functions, Call, closing, told, asked, ending, handed, reached}
+use Rattle.demands.specs.Watching.{MachineCalls, Begun}
 use Rattle.demands.specs.Logs.{lastTime, going, over, courseOf}
 use Rattle.demands.specs.Rewritten.{readRule}
 use Rattle.demands.specs.Tables.{Carries}
 
 -- after start and any calls
-pub record OwnWork (f : Three) (rule signals ws : List ℕ) (calls : List Call) : Type 0 where
+pub record OwnWork (f : Functions) (rule signals ws : List ℕ) (calls : List Call) : Type 0 where
   -- refusals 7 and 12 are not given
   pub whole : wrongArea (reached f rule signals ws calls .area) ≡ false
   pub sound : brokenState (reached f rule signals ws calls .state) (reached f rule signals ws calls .area) ≡ false
@@ -34,6 +35,8 @@ pub record OwnWork (f : Three) (rule signals ws : List ℕ) (calls : List Call) 
   pub again : (e : Entry) (es : List Entry) → courseOf signals calls ≡ over e es
       → Carries (foundAt (ending f (reached f rule signals ws calls))) 10
   pub nothing : courseOf signals calls ≡ going [] → Carries (foundAt (ending f (reached f rule signals ws calls))) 11
+  -- asking is answered as closing would be
+  pub asks : asked f (reached f rule signals ws calls) ≡ ending f (reached f rule signals ws calls)
   -- closing leaves the past rows as they were
   pub past : (j : ℕ) → j < mostParameters
       → rowAt (handed f (reached f rule signals ws calls) closing .area) j
@@ -42,7 +45,7 @@ pub record OwnWork (f : Three) (rule signals ws : List ℕ) (calls : List Call) 
   pub waits : waitOf (reached f rule signals ws calls .state) ≡ horizon (readRule rule)
 
 -- of every run
-abbrev pub OwnWorkIsFine : Three → Type 0
+abbrev pub OwnWorkIsFine : Functions → Type 0
 OwnWorkIsFine f =
     (rule signals ws : List ℕ) → Begun f rule signals ws → (calls : List Call) → MachineCalls calls
     → OwnWork f rule signals ws calls

@@ -47,21 +47,16 @@ fn two_records() -> [u8; 32] {
     log
 }
 
-// Writes the lines of two records and of closing.
-fn lines(log: &[u8], letters: &[u8]) {
-    line(log, 0, letters, 0);
-    line(log, 16, letters, 1);
-    text(b"end ");
-    word(letters, 3);
-    text(b"\n");
-}
-
-// Rule A on these signals and records.
+// Rule A on these signals and records: a line for each record, and one for closing.
 pub(crate) fn listing(area: &mut [u64]) {
     let rule = rule_a(0, 2);
     let signals = wind_and_lee();
     let log = two_records();
     let mut letters = [0u8; 16];
     run(&rule, &signals, &log, &mut letters, area);
-    lines(&log, &letters);
+    line(&log, 0, &letters, 0);
+    line(&log, 16, &letters, 1);
+    text(b"end ");
+    word(&letters, 3);
+    text(b"\n");
 }

@@ -10,20 +10,25 @@ use lib.Dec.{ltb, lit≤}
 use lib.ListN.{length, getD, length-append}
 use borrow.Author.Tests.{ltb-false}
 use Rattle.ground.proofs.ByteLaws.{little-lt}
+use Rattle.watcher.specs.declared.state.Watcher.{Watcher}
 use Rattle.watcher.specs.declared.state.Word.{Word}
 use Rattle.watcher.specs.declared.state.Word.the-variants as word
+use Rattle.watcher.specs.declared.state.Verdict.{Verdict}
 use Rattle.watcher.specs.declared.state.Refusal.{Refusal}
 use Rattle.watcher.specs.declared.state.Found.{Found}
 use Rattle.watcher.specs.declared.state.Found.the-variants as found
+use Rattle.watcher.specs.declared.state.Fed.{Fed}
 use Rattle.watcher.specs.declared.state.Answer.{Answer}
 use Rattle.watcher.specs.declared.state.Answer.the-variants as answer
 use Rattle.watcher.specs.declared.state.End.{End}
 use Rattle.watcher.specs.declared.state.End.the-variants as end
-use Rattle.watcher.specs.Numbers.{verdictValue, refusalNumber, decided}
+use Rattle.watcher.specs.Numbers.{refusalNumber}
 use Rattle.watcher.specs.Records.{timeOf}
+use Rattle.watcher.specs.Calls.{askOf}
 use Rattle.watcher.proofs.Numbers.{number-most}
-use Rattle.lines.specs.Text.{digits, decimal, space, newline, wordText, wordLine, refusedLine, foundLine}
-use Rattle.lines.specs.Text.{toldLine, answerLine, endText, endLine}
+use Rattle.lines.specs.Text.{digits, decimal, space, newline, wordText, verdictText, refusedLine, foundLine}
+use Rattle.lines.specs.Text.{toldLine, answerLine, askText, endText, endLine}
+use Rattle.lines.specs.Lines.{behindText, pieceLine}
 use Rattle.lines.specs.Listing.{lineBytes}
 
 -- a number below 10^(d+1) has at most d + 1 digits
@@ -45,22 +50,33 @@ decimal-short : (d n : ℕ) → n < 10 ^ suc d → length (decimal n) ≤ suc d
 unfolding decimal
 decimal-short d n h = digits-short (n + 1) d n h
 
--- a word, and a time
+-- a word, a verdict, and a time
 word-short : (w : Word) → length (wordText w) ≤ 7
 unfolding wordText
 word-short word.Kept = lit≤ tt
 word-short word.Broken = lit≤ tt
 word-short word.Pending = lit≤ tt
 
+verdict-short : (v : Verdict) → length (verdictText v) ≤ 7
+unfolding verdictText
+verdict-short v = word-short _
+
 time-short : (piece : List ℕ) → ((i : ℕ) → getD piece i 0 < 256) → length (decimal (timeOf piece)) ≤ 10
 unfolding timeOf
 time-short piece h = decimal-short 9 _ (lt-of-lt-of-le (little-lt piece 0 4 h) (lit≤ tt))
 
--- a word's line, and a refusal's
-told-short : (w : Word) → length (wordLine w) ≤ 8
-unfolding wordLine
-told-short w = omega (arith, length-append (wordText w) (newline ∷ []), word-short w)
+-- what stands behind a word
+ask-short : (e : End) → length (askText e) ≤ 12
+unfolding askText
+ask-short (end.Closed v) = omega (arith, verdict-short v)
+ask-short (end.Refused r) = lit≤ tt
 
+behind-short : (more : Bool) (w : Watcher) (ws : List ℕ) → length (behindText more w ws) ≤ 12
+unfolding behindText
+behind-short false w ws = lit≤ tt
+behind-short true w ws = ask-short (askOf w ws)
+
+-- a refusal's line
 refused-short : (r : Refusal) → length (refusedLine r) ≤ 11
 unfolding refusedLine
 refused-short r =
@@ -76,21 +92,28 @@ unfolding foundLine
 found-fits found.Fine = lit≤ tt
 found-fits (found.Refused r) = omega (arith, refused-short r)
 
-pub answer-fits : (piece : List ℕ) → ((i : ℕ) → getD piece i 0 < 256) → (a : Answer)
-    → length (answerLine (timeOf piece) a) ≤ lineBytes
+answer-fits : (piece : List ℕ) → ((i : ℕ) → getD piece i 0 < 256) → (behind : List ℕ)
+    → length behind ≤ 12 → (a : Answer) → length (answerLine (timeOf piece) behind a) ≤ lineBytes
 unfolding answerLine toldLine
-answer-fits piece h (answer.Accepted report) =
+answer-fits piece h behind s (answer.Accepted report) =
     omega (
       arith,
-      length-append (decimal (timeOf piece)) (space ∷ wordLine (report .word)),
+      length-append (decimal (timeOf piece)) (space ∷ (wordText (report .word) ++ (behind ++ (newline ∷ [])))),
       time-short piece h,
-      told-short (report .word),
+      length-append (wordText (report .word)) (behind ++ (newline ∷ [])),
+      word-short (report .word),
+      length-append behind (newline ∷ []),
     )
-answer-fits piece h (answer.Refused r) = omega (arith, refused-short r)
+answer-fits piece h behind s (answer.Refused r) = omega (arith, refused-short r)
+
+pub piece-fits : (piece : List ℕ) → ((i : ℕ) → getD piece i 0 < 256) → (more : Bool) (f : Fed × List ℕ)
+    → length (pieceLine piece more f) ≤ lineBytes
+unfolding pieceLine
+piece-fits piece h more f = answer-fits piece h _ (behind-short more (f .0 .next) (f .1)) (f .0 .answer)
 
 end-short : (e : End) → length (endText e) ≤ 11
 unfolding endText
-end-short (end.Closed v) = omega (arith, told-short (decided (verdictValue v)))
+end-short (end.Closed v) = omega (arith, length-append (verdictText v) (newline ∷ []), verdict-short v)
 end-short (end.Refused r) = refused-short r
 
 pub end-fits : (e : End) → length (endLine e) ≤ lineBytes

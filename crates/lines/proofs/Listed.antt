@@ -10,16 +10,16 @@ use lib.Seq.{take-all, take-at}
 use Rattle.watcher.specs.declared.state.Watcher.{Watcher}
 use Rattle.watcher.specs.declared.state.Started.{Started}
 use Rattle.watcher.specs.Limits.{logBytes}
-use Rattle.watcher.specs.Records.{timeOf}
 use Rattle.watcher.specs.State.{isRefused}
-use Rattle.watcher.specs.Calls.{startOf, feedOf, closeOf}
-use Rattle.lines.specs.Text.{foundLine, answerLine, endLine}
-use Rattle.lines.specs.Lines.{placed, turned, startedLine, startLine, fedLine, feedLine, endedLine, closeLine}
+use Rattle.watcher.specs.Calls.{startOf, feedOf, askOf}
+use Rattle.lines.specs.Text.{foundLine, endLine}
+use Rattle.lines.specs.Lines.{placed, pieceLine, startedLine, startLine, fedLine, feedLine, askLine}
 use Rattle.watcher.specs.Runs.{piecesIn, pieces}
+use Rattle.watcher.proofs.Asking.{ask-as-close}
 use Rattle.watcher.proofs.Machines.{take-small, drop-small}
 use Rattle.lines.specs.Listing.{logLines, listingFrom, listingOn, lineBytes}
 use Rattle.lines.specs.Listing.{printedLog, printed}
-use Rattle.lines.proofs.Lengths.{found-fits, answer-fits, end-fits}
+use Rattle.lines.proofs.Lengths.{found-fits, piece-fits, end-fits}
 
 -- bytes, and pieces of bytes
 abbrev pub Bytes : List ℕ → Type 0
@@ -44,23 +44,23 @@ read-back out text h =
     ap (λ s. take (min (length text) (length out)) (s ++ drop (length text) out)) (take-all (length out) text h)
     ∙ take-at text (drop (length text) out) (min (length text) (length out)) n
 
-module _ (out : List ℕ) (room : lineBytes ≤ length out) where
+module _ (more : Bool) (out : List ℕ) (room : lineBytes ≤ length out) where
   log-printed : (w : Watcher) (ws : List ℕ) (parts : List (List ℕ)) → AllBytes parts
-      → printedLog w ws out parts ≡ logLines w ws parts
-  unfolding printedLog logLines feedLine fedLine closeLine endedLine turned
+      → printedLog more w ws out parts ≡ logLines more w ws parts
+  unfolding printedLog logLines feedLine fedLine askLine
   log-printed w ws [] h =
-      read-back out (endLine (closeOf w ws .0 .answer)) (omega (arith, end-fits (closeOf w ws .0 .answer)))
+      read-back out (endLine (askOf w ws)) (omega (arith, end-fits (askOf w ws))) ∙ ap endLine (ask-as-close w ws)
   log-printed w ws (piece ∷ rest) h =
       ap₂ _++_
-      (read-back out (answerLine (timeOf piece) (feedOf w piece ws .0 .answer))
-      (omega (arith, answer-fits piece (h .0) (feedOf w piece ws .0 .answer))))
+      (read-back out (pieceLine piece more (feedOf w piece ws))
+      (omega (arith, piece-fits piece (h .0) more (feedOf w piece ws))))
       (log-printed (feedOf w piece ws .0 .next) (feedOf w piece ws .1) rest (h .1))
 
   from-printed : (s : Started × List ℕ) (log : List ℕ) → Bytes log
       → take (startedLine out s .0 .length) (startedLine out s .2)
       ++ cond (startedLine out s .0 .ready)
-      (printedLog (startedLine out s .0 .next) (startedLine out s .1) out (pieces log)) []
-      ≡ listingFrom s log
+      (printedLog more (startedLine out s .0 .next) (startedLine out s .1) out (pieces log)) []
+      ≡ listingFrom more s log
   unfolding startedLine listingFrom pieces
   from-printed s log h =
       ap₂ _++_
@@ -68,13 +68,13 @@ module _ (out : List ℕ) (room : lineBytes ≤ length out) where
       (go (isRefused (s .0 .found)))
     where
       go : (b : Bool)
-          → cond (not b) (printedLog (s .0 .next) (s .1) out (piecesIn (length log) log)) []
-          ≡ cond b [] (logLines (s .0 .next) (s .1) (piecesIn (length log) log))
+          → cond (not b) (printedLog more (s .0 .next) (s .1) out (piecesIn (length log) log)) []
+          ≡ cond b [] (logLines more (s .0 .next) (s .1) (piecesIn (length log) log))
       go true = refl
       go false = log-printed (s .0 .next) (s .1) (piecesIn (length log) log) (pieces-bytes (length log) log h)
 
   -- for any area, rule and signal list, and any log of bytes
   pub printed-listing : (ws rule signals log : List ℕ) → Bytes log
-      → printed ws out rule signals log ≡ listingOn ws rule signals log
+      → printed more ws out rule signals log ≡ listingOn more ws rule signals log
   unfolding printed listingOn startLine
   printed-listing ws rule signals log h = from-printed (startOf rule signals ws) log h

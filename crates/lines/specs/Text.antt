@@ -5,6 +5,7 @@ use Prim.Native.Nat.{ℕ, zero, suc, _+_, _/_, _%_}
 use lib.Dec.{ltb}
 use Rattle.watcher.specs.declared.state.Word.{Word}
 use Rattle.watcher.specs.declared.state.Word.the-variants as word
+use Rattle.watcher.specs.declared.state.Verdict.{Verdict}
 use Rattle.watcher.specs.declared.state.Refusal.{Refusal}
 use Rattle.watcher.specs.declared.state.Found.{Found}
 use Rattle.watcher.specs.declared.state.Found.the-variants as found
@@ -29,6 +30,10 @@ wordText word.Kept = 107 ∷ 101 ∷ 112 ∷ 116 ∷ []
 wordText word.Broken = 98 ∷ 114 ∷ 111 ∷ 107 ∷ 101 ∷ 110 ∷ []
 wordText word.Pending = 112 ∷ 101 ∷ 110 ∷ 100 ∷ 105 ∷ 110 ∷ 103 ∷ []
 
+-- a verdict, worded as the word that is decided so
+unfoldable pub verdictText : Verdict → List ℕ
+verdictText v = wordText (decided (verdictValue v))
+
 -- a space, and the end of a line
 abbrev pub space : ℕ
 space = 32
@@ -46,21 +51,22 @@ unfoldable pub foundLine : Found → List ℕ
 foundLine found.Fine = []
 foundLine (found.Refused r) = refusedLine r
 
--- a word, and the end of its line
-unfoldable pub wordLine : Word → List ℕ
-wordLine w = wordText w ++ (newline ∷ [])
+-- a record's time, a space, the word and what stands behind it; or its refusal
+unfoldable pub toldLine : (time : ℕ) → Word → (behind : List ℕ) → List ℕ
+toldLine time w behind = decimal time ++ ((space ∷ []) ++ (wordText w ++ (behind ++ (newline ∷ []))))
 
--- a record's time, a space and the word; or its refusal
-unfoldable pub toldLine : (time : ℕ) → Word → List ℕ
-toldLine time w = decimal time ++ ((space ∷ []) ++ wordLine w)
+unfoldable pub answerLine : (time : ℕ) (behind : List ℕ) → Answer → List ℕ
+answerLine time behind (answer.Accepted report) = toldLine time (report .word) behind
+answerLine time behind (answer.Refused r) = refusedLine r
 
-unfoldable pub answerLine : (time : ℕ) → Answer → List ℕ
-answerLine time (answer.Accepted report) = toldLine time (report .word)
-answerLine time (answer.Refused r) = refusedLine r
+-- behind a word: a space, "ask", a space and the verdict; nothing where asking is refused
+unfoldable pub askText : End → List ℕ
+askText (end.Closed v) = (space ∷ 97 ∷ 115 ∷ 107 ∷ space ∷ []) ++ verdictText v
+askText (end.Refused r) = []
 
--- "end", a space and the verdict, worded as the word that is decided so; or the refusal
+-- "end", a space and the verdict; or the refusal
 unfoldable pub endText : End → List ℕ
-endText (end.Closed v) = wordLine (decided (verdictValue v))
+endText (end.Closed v) = verdictText v ++ (newline ∷ [])
 endText (end.Refused r) = refusedLine r
 
 unfoldable pub endLine : End → List ℕ

@@ -1,14 +1,14 @@
 // Text put into a lent buffer from a place on; each function answers the place behind it, and never passes the end.
-use watcher::state::Answer;
 use watcher::state::End;
 use watcher::state::Found;
 use watcher::state::Refusal;
+use watcher::state::Verdict;
 use watcher::state::Word;
 ghost use mathlib.Core.Path.{_≡_};
 ghost use Prim.Native.Nat.{ℕ, _<_};
 ghost use Rattle.lines.specs.inside.Puts.{putByte, putText};
-ghost use Rattle.lines.specs.Text.{digits, decimal, wordText, wordLine, refusedLine};
-ghost use Rattle.lines.specs.Text.{foundLine, toldLine, answerLine, endText, endLine};
+ghost use Rattle.lines.specs.Text.{digits, decimal, wordText, verdictText, refusedLine};
+ghost use Rattle.lines.specs.Text.{foundLine, askText, endText, endLine};
 
 // A byte.
 pub(crate) fn put(out: &mut [u8], at: usize, byte: u8) -> usize
@@ -51,7 +51,7 @@ pub(crate) fn put_number(out: &mut [u8], at: usize, n: usize) -> usize
 }
 
 // A word.
-fn put_word(out: &mut [u8], at: usize, word: Word) -> usize
+pub(crate) fn put_word(out: &mut [u8], at: usize, word: Word) -> usize
     ensures { λ r. ⌜ (r, now (out .exit)) ≡ putText (at, now (out .entry)) (wordText word) ⌝ }
 {
     match word {
@@ -61,16 +61,15 @@ fn put_word(out: &mut [u8], at: usize, word: Word) -> usize
     }
 }
 
-// A word, and the end of its line.
-fn put_word_line(out: &mut [u8], at: usize, word: Word) -> usize
-    ensures { λ r. ⌜ (r, now (out .exit)) ≡ putText (at, now (out .entry)) (wordLine word) ⌝ }
+// A verdict.
+fn put_verdict(out: &mut [u8], at: usize, verdict: Verdict) -> usize
+    ensures { λ r. ⌜ (r, now (out .exit)) ≡ putText (at, now (out .entry)) (verdictText verdict) ⌝ }
 {
-    let end = put_word(out, at, word);
-    put_text(out, end, b"\n")
+    put_word(out, at, verdict.word())
 }
 
 // The line of a refusal.
-fn put_refused(out: &mut [u8], at: usize, refusal: Refusal) -> usize
+pub(crate) fn put_refused(out: &mut [u8], at: usize, refusal: Refusal) -> usize
     ensures { λ r. ⌜ (r, now (out .exit)) ≡ putText (at, now (out .entry)) (refusedLine refusal) ⌝ }
 {
     let number = put_text(out, at, b"refused ");
@@ -88,25 +87,16 @@ pub(crate) fn put_found(out: &mut [u8], at: usize, found: Found) -> usize
     }
 }
 
-// The line of a record with a word.
-fn put_told(out: &mut [u8], at: usize, time: u32, word: Word) -> usize
-    ensures { λ r. ⌜ (r, now (out .exit)) ≡ putText (at, now (out .entry)) (toldLine time word) ⌝ }
+// What asking answers, behind a word: nothing where it is refused.
+pub(crate) fn put_ask(out: &mut [u8], at: usize, end: End) -> usize
+    ensures { λ r. ⌜ (r, now (out .exit)) ≡ putText (at, now (out .entry)) (askText end) ⌝ }
 {
-    let space = put_number(out, at, time as usize);
-    let told = put_text(out, space, b" ");
-    put_word_line(out, told, word)
-}
-
-// The line of a record.
-pub(crate) fn put_answer(out: &mut [u8], at: usize, time: u32, answer: Answer) -> usize
-    ensures { λ r. ⌜ (r, now (out .exit)) ≡ putText (at, now (out .entry)) (answerLine time answer) ⌝ }
-{
-    match answer {
-        Answer::Accepted(report) => {
-            let word = report.word;
-            put_told(out, at, time, word)
+    match end {
+        End::Closed(verdict) => {
+            let told = put_text(out, at, b" ask ");
+            put_verdict(out, told, verdict)
         }
-        Answer::Refused(refusal) => put_refused(out, at, refusal),
+        End::Refused(_) => at,
     }
 }
 
@@ -115,7 +105,10 @@ fn put_ending(out: &mut [u8], at: usize, end: End) -> usize
     ensures { λ r. ⌜ (r, now (out .exit)) ≡ putText (at, now (out .entry)) (endText end) ⌝ }
 {
     match end {
-        End::Closed(verdict) => put_word_line(out, at, verdict.word()),
+        End::Closed(verdict) => {
+            let line_end = put_verdict(out, at, verdict);
+            put_text(out, line_end, b"\n")
+        }
         End::Refused(refusal) => put_refused(out, at, refusal),
     }
 }

@@ -1,10 +1,10 @@
-// Start, feed and close, each with the line that it prints.
-use crate::text::put_answer;
+// Start, feed and ask, each with the line that it prints.
+use crate::records::put_answer;
 use crate::text::put_end;
 use crate::text::put_found;
 use watcher::readings::time_of;
 use watcher::state::Watcher;
-ghost use Rattle.lines.specs.Clauses.{LineBytesClause, StartLineClause, FeedLineClause, CloseLineClause};
+ghost use Rattle.lines.specs.Clauses.{LineBytesClause, StartLineClause, FeedLineClause, AskLineClause};
 
 // Bytes that no line has more of.
 pub const LINE_BYTES: usize = 32;
@@ -16,7 +16,7 @@ pub struct Opened {
     pub length: usize,
 }
 
-// What a turn hands back: the next state, and how many bytes its line has.
+// What feeding hands back: the next state, and how many bytes its line has.
 pub struct Turn {
     pub next: Watcher,
     pub length: usize,
@@ -45,26 +45,27 @@ pub fn start_line(rule: &[u8], signals: &[u8], area: &mut [u64], out: &mut [u8])
     }
 }
 
-// Feed a piece of the log; the line is its time and word, or its refusal.
-pub fn feed_line(watcher: Watcher, piece: &[u8], area: &mut [u64], out: &mut [u8]) -> Turn
-    ensures { λ r. ⌜ FeedLineClause watcher (now (piece .entry)) (now (area .entry)) (now (out .entry))
+// Feed a piece of the log; the line is its time and word, and more behind it if so asked, or its refusal.
+pub fn feed_line(
+    watcher: Watcher,
+    piece: &[u8],
+    more: bool,
+    area: &mut [u64],
+    out: &mut [u8],
+) -> Turn
+    ensures { λ r. ⌜ FeedLineClause watcher (now (piece .entry)) more (now (area .entry)) (now (out .entry))
         (r, now (area .exit), now (out .exit)) ⌝ }
 {
     let fed = watcher.feed(piece, area);
     let answer = fed.answer;
     let next = fed.next;
-    let length = put_answer(out, 0, time_of(piece), answer);
+    let length = put_answer(out, time_of(piece), answer, more, next, area);
     Turn { next, length }
 }
 
-// Close the log; the line is its verdict, or the refusal.
-pub fn close_line(watcher: Watcher, area: &mut [u64], out: &mut [u8]) -> Turn
-    ensures { λ r. ⌜ CloseLineClause watcher (now (area .entry)) (now (out .entry))
-        (r, now (area .exit), now (out .exit)) ⌝ }
+// Ask how the log ends; the line is the verdict, or the refusal.
+pub fn ask_line(watcher: Watcher, area: &[u64], out: &mut [u8]) -> usize
+    ensures { λ r. ⌜ AskLineClause watcher (now (area .entry)) (now (out .entry)) (r, now (out .exit)) ⌝ }
 {
-    let ended = watcher.close(area);
-    let answer = ended.answer;
-    let next = ended.next;
-    let length = put_end(out, 0, answer);
-    Turn { next, length }
+    put_end(out, 0, watcher.ask(area))
 }

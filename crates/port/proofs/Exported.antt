@@ -14,15 +14,17 @@ use Rattle.watcher.specs.declared.state.Refusal.{Refusal}
 use Rattle.watcher.specs.declared.state.Word.{Word}
 use Rattle.watcher.specs.declared.state.Started.{Started}
 use Rattle.watcher.specs.declared.state.Fed.{Fed}
+use Rattle.watcher.specs.declared.state.End.{End}
 use Rattle.watcher.specs.declared.state.Ended.{Ended}
 use Rattle.watcher.specs.Numbers.{horizonFor}
-use Rattle.watcher.specs.Calls.{startOf, feedOf, feedRefusal, closeOf, waitOf}
+use Rattle.watcher.specs.Calls.{startOf, feedOf, feedRefusal, askOf, closeOf, waitOf}
 use Rattle.port.specs.declared.codes.Told.{Told}
 use Rattle.port.specs.declared.codes.Told.the-variants.{Said, Refused}
-use Rattle.port.specs.Codes.{stateLength, foundCode, toldOf, toldAt, toldCode, horizonCode}
+use Rattle.port.specs.Codes.{stateLength, foundCode, toldOf, toldAt, toldCode, endCode, horizonCode}
 use Rattle.port.specs.Layout.{stateBytes, written, stateIn}
 use Rattle.port.specs.Exports.{wrongState, startedBytes, startBytes, refusalBytes, keptUnless, toldBytes}
-use Rattle.port.specs.Exports.{fedBytes, feedBytes, endedBytes, closeBytes, horizonBytes}
+use Rattle.port.specs.Exports.{fedBytes, feedBytes, askBytes, endedBytes, closeBytes, horizonBytes}
+use Rattle.port.specs.Clauses.{AskClause}
 
 -- bytes of another length are no state
 long-not : (bytes : List ℕ) → (length bytes ≡ stateBytes → ⊥) → wrongState bytes ≡ true
@@ -92,6 +94,17 @@ unfolding feedBytes fedBytes
 feed-right bytes piece ws ws′ after w s t n h e f g m =
     let fed : (s, ws′) ≡ feedOf (stateIn bytes) piece ws = f ∙ ap (λ v. feedOf v piece ws) e in
     told-so t _ (s .next) ws′ bytes after n g m ∙ ap (λ o. fedBytes o bytes) fed ∙ right-one bytes _ _ h
+
+pub ask-wrong : (bytes ws : List ℕ) → (length bytes ≡ stateBytes → ⊥) → AskClause bytes ws (stateLength, bytes, ws)
+unfolding askBytes
+ask-wrong bytes ws h = ap (λ n. (n, bytes, ws)) (wrong-one bytes stateLength (endCode (askOf (stateIn bytes) ws)) h)
+
+pub ask-right : (bytes ws : List ℕ) (w : Watcher) (e : End) (t : Told) (n : ℕ) → length bytes ≡ stateBytes
+    → w ≡ stateIn bytes → e ≡ askOf w ws → t ≡ toldAt e → n ≡ toldCode t → AskClause bytes ws (n, bytes, ws)
+unfolding askBytes endCode
+ask-right bytes ws w e t n h is f g m =
+    let made : n ≡ endCode (askOf (stateIn bytes) ws) = cc in
+    ap (λ k. (k, bytes, ws)) (made ∙ right-one bytes stateLength (endCode (askOf (stateIn bytes) ws)) h)
 
 pub close-wrong : (bytes ws : List ℕ) → (length bytes ≡ stateBytes → ⊥)
     → (stateLength, bytes, ws) ≡ closeBytes bytes ws

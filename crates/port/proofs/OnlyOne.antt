@@ -4,7 +4,8 @@ use mathlib.Core.Path.{_≡_}
 use mathlib.Core.List.{List}
 use Prim.Native.Nat.{ℕ}
 use Rattle.ground.proofs.OnlyOne.{only-one}
-use Rattle.port.specs.Clauses.{StartClause, WouldRefuseClause, FeedClause, CloseClause, HorizonClause, RunClause}
+use Rattle.port.specs.Clauses.{StartClause, WouldRefuseClause, FeedClause, AskClause, CloseClause}
+use Rattle.port.specs.Clauses.{HorizonClause, RunClause}
 
 pub only-start : (rule signals bytes ws : List ℕ) (o o′ : ℕ × List ℕ × List ℕ) → StartClause rule signals bytes ws o
     → StartClause rule signals bytes ws o′ → o ≡ o′
@@ -17,6 +18,10 @@ only-would-refuse bytes piece ws = only-one _
 pub only-feed : (bytes piece ws : List ℕ) (o o′ : ℕ × List ℕ × List ℕ) → FeedClause bytes piece ws o
     → FeedClause bytes piece ws o′ → o ≡ o′
 only-feed bytes piece ws = only-one _
+
+pub only-ask : (bytes ws : List ℕ) (o o′ : ℕ × List ℕ × List ℕ) → AskClause bytes ws o → AskClause bytes ws o′
+    → o ≡ o′
+only-ask bytes ws = only-one _
 
 pub only-close : (bytes ws : List ℕ) (o o′ : ℕ × List ℕ × List ℕ) → CloseClause bytes ws o → CloseClause bytes ws o′
     → o ≡ o′

@@ -2,7 +2,7 @@
 use mathlib.Core.Path.{_≡_}
 use mathlib.Core.List.{List}
 use Prim.Native.Nat.{ℕ}
-use Rattle.port.specs.Exports.{startBytes, refusalBytes, feedBytes, closeBytes, horizonBytes}
+use Rattle.port.specs.Exports.{startBytes, refusalBytes, feedBytes, askBytes, closeBytes, horizonBytes}
 use Rattle.port.specs.Whole.{runOf}
 
 -- starting a watcher: the code, the state's bytes and the work area
@@ -16,6 +16,10 @@ WouldRefuseClause bytes piece ws o = o ≡ refusalBytes bytes piece ws
 -- feeding a record: the code, the state's bytes and the work area
 abbrev pub FeedClause : (bytes piece ws : List ℕ) → ℕ × List ℕ × List ℕ → Type 0
 FeedClause bytes piece ws o = o ≡ feedBytes bytes piece ws
+
+-- asking how the log would end now; the state's bytes and the work area are left as they were
+abbrev pub AskClause : (bytes ws : List ℕ) → ℕ × List ℕ × List ℕ → Type 0
+AskClause bytes ws o = o ≡ (askBytes bytes ws, bytes, ws)
 
 -- closing the log: the code, the state's bytes and the work area
 abbrev pub CloseClause : (bytes ws : List ℕ) → ℕ × List ℕ × List ℕ → Type 0

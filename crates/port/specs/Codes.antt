@@ -34,7 +34,7 @@ unfoldable pub foundCode : Found → ℕ
 foundCode found.Fine = 0
 foundCode (found.Refused r) = refusalNumber r
 
--- what the answer to a record tells, and the answer to closing: a verdict is the word that says the same
+-- what the answer to a record tells, and the answer to asking or closing: a verdict is the word that says the same
 unfoldable pub toldOf : Answer → Told
 toldOf (answer.Accepted report) = Said (report .word)
 toldOf (answer.Refused r) = Refused r

@@ -9,10 +9,10 @@ use Rattle.watcher.specs.declared.state.Watcher.{Watcher}
 use Rattle.watcher.specs.declared.state.Started.{Started}
 use Rattle.watcher.specs.declared.state.Fed.{Fed}
 use Rattle.watcher.specs.declared.state.Ended.{Ended}
-use Rattle.watcher.specs.Calls.{startOf, feedOf, feedRefusal, closeOf, waitOf}
+use Rattle.watcher.specs.Calls.{startOf, feedOf, feedRefusal, askOf, closeOf, waitOf}
 use Rattle.port.specs.declared.codes.Told.{Told}
 use Rattle.port.specs.declared.codes.Told.the-variants.{Said, Refused}
-use Rattle.port.specs.Codes.{stateLength, foundCode, toldOf, toldAt, toldCode, horizonCode}
+use Rattle.port.specs.Codes.{stateLength, foundCode, toldOf, toldAt, toldCode, endCode, horizonCode}
 use Rattle.port.specs.Layout.{stateBytes, written, stateIn}
 
 -- bytes that are no state
@@ -48,6 +48,10 @@ fedBytes s bytes = toldBytes (toldOf (s .0 .answer)) (s .0 .next) (s .1) bytes
 unfoldable pub feedBytes : (bytes piece ws : List ℕ) → ℕ × List ℕ × List ℕ
 feedBytes bytes piece ws =
     cond (wrongState bytes) (stateLength, bytes, ws) (fedBytes (feedOf (stateIn bytes) piece ws) bytes)
+
+-- ask: the code of how the log would end now
+unfoldable pub askBytes : (bytes ws : List ℕ) → ℕ
+askBytes bytes ws = cond (wrongState bytes) stateLength (endCode (askOf (stateIn bytes) ws))
 
 -- close
 unfoldable pub endedBytes : Ended × List ℕ → List ℕ → ℕ × List ℕ × List ℕ

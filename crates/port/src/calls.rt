@@ -16,7 +16,8 @@ ghost use lib.ListN.{length};
 ghost use Rattle.port.specs.Codes.{toldCode};
 ghost use Rattle.port.specs.Layout.{stateBytes, written};
 ghost use Rattle.port.specs.Exports.{keptUnless};
-ghost use Rattle.port.specs.Clauses.{StartClause, WouldRefuseClause, FeedClause, CloseClause, HorizonClause};
+ghost use Rattle.port.specs.Clauses.{StartClause, WouldRefuseClause, FeedClause};
+ghost use Rattle.port.specs.Clauses.{AskClause, CloseClause, HorizonClause};
 
 // Start a watcher.
 #[no_mangle]
@@ -81,6 +82,18 @@ pub extern "C" fn hunchcold_feed(bytes: &mut [u8], piece: &[u8], area: &mut [u64
     let answer = fed.answer;
     let next = fed.next;
     write_told(told_of(answer), next, bytes)
+}
+
+// How the log ends, were this the last record.
+#[no_mangle]
+pub extern "C" fn hunchcold_ask(bytes: &[u8], area: &[u64]) -> u8
+    ensures { λ r. ⌜ AskClause (now (bytes .entry)) (now (area .entry)) (r, now (bytes .exit), now (area .exit)) ⌝ }
+{
+    if bytes.len() != STATE_BYTES {
+        return STATE_LENGTH;
+    }
+    let state = read_state(bytes);
+    told_code(told_at(state.ask(area)))
 }
 
 // Close the log.

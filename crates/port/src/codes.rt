@@ -65,7 +65,7 @@ pub(crate) fn told_of(answer: Answer) -> Told
     }
 }
 
-// What the answer to closing tells: a verdict is the word that says the same.
+// What the answer to asking or closing tells: a verdict is the word that says the same.
 pub(crate) fn told_at(end: End) -> Told
     ensures { λ r. ⌜ r ≡ toldAt end ⌝ }
 {

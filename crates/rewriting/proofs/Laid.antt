@@ -1,6 +1,6 @@
 -- Writing the remainder and clearing the scratch lays the area out: at the end of a log, and at its start.
 -- Assumes nothing.
-use mathlib.Core.Path.{_≡_, refl, sym, ap, ap₂, _∙_}
+use mathlib.Core.Path.{_≡_, refl, sym, ap, _∙_}
 use mathlib.Core.Bool.{Bool}
 use mathlib.Core.Logic.{inl}
 use mathlib.Core.List.{List, []}
@@ -12,14 +12,11 @@ use Rattle.forms.specs.Words.{pack}
 use Rattle.forms.specs.Area.{rowAt, putRows, formIn}
 use Rattle.forms.proofs.Packing.{pack-words, pack-false}
 use Rattle.forms.proofs.Areas.{length-putRows, row-kept}
-use Rattle.meaning.specs.Rule.{Node}
 use Rattle.meaning.specs.Rewriting.{formsOf}
-use Rattle.meaning.specs.Words.{start, valueIfLast}
-use Rattle.meaning.proofs.Ending.{close-constant}
+use Rattle.meaning.specs.Words.{start}
 use Rattle.rewriting.specs.declared.step.Plan.{Plan}
-use Rattle.rewriting.specs.declared.step.Moment.{Moment}
-use Rattle.rewriting.specs.Known.{wordsFor, knownIn, areaOf, Tidy}
-use Rattle.rewriting.specs.Plans.{ruleFor, readIn, closedWith}
+use Rattle.rewriting.specs.Known.{wordsFor, areaOf, Tidy}
+use Rattle.rewriting.specs.Plans.{ruleFor, closedWith}
 use Rattle.rewriting.proofs.Rules.{length-ruleIn}
 use Rattle.rewriting.proofs.Placed.{wordsFor-rows, tidy-past, row-among, cleared-laid}
 
@@ -40,17 +37,12 @@ rest-laid places m past f ws row written out l p e r =
     ∙ e) (r .zeros)
 
 -- the end: the past rows stay
-pub closed-laid : (plan : Plan) (rule : List Node) (last : Moment) (ws row written out : List ℕ) (b : Bool)
-    → Tidy (plan .places) (plan .m) ws → b ≡ valueIfLast (plan .m) rule (readIn plan ws last)
+pub closed-laid : (plan : Plan) (ws row written out : List ℕ) (b : Bool) → Tidy (plan .places) (plan .m) ws
     → row ≡ pack (plan .m) (constant (plan .m) b) → Rested ws (plan .places) row written out
-    → (b, out) ≡ closedWith plan rule (readIn plan ws last)
-unfolding closedWith knownIn
-closed-laid plan rule last ws row written out b tidy v e r =
-    ap₂ (λ x y. (x, y)) v
-    (rest-laid (plan .places) (plan .m) _ (constant (plan .m) b) ws row written out (tidy .long)
+    → out ≡ closedWith plan b ws
+closed-laid plan ws row written out b tidy e r =
+    rest-laid (plan .places) (plan .m) _ (constant (plan .m) b) ws row written out (tidy .long)
     (tidy-past (plan .places) (plan .m) ws tidy) e r
-    ∙ ap (areaOf (plan .places) (plan .m) _)
-    (ap (constant (plan .m)) v ∙ sym (close-constant (plan .m) rule (readIn plan ws last))))
 
 -- the start: the past rows are cleared, and the remainder is the rule's form
 pub begun-laid : (list : List ℕ) (plan : Plan) (ws cleared row written out : List ℕ)

@@ -56,9 +56,9 @@ FeedClause list plan last new forms ws o = o ≡ fedWith list plan last new ws
 abbrev pub ValueIfLastClause : (list : List ℕ) → Plan → (last : Moment) (forms ws : List ℕ) → Bool → Type 0
 ValueIfLastClause list plan last forms ws o = o ≡ valueIfLast (plan .m) (ruleFor list plan) (readIn plan ws last)
 
--- that value, and the area after closing
-abbrev pub CloseClause : (list : List ℕ) → Plan → (last : Moment) (forms ws : List ℕ) → Bool × List ℕ → Type 0
-CloseClause list plan last forms ws o = o ≡ closedWith plan (ruleFor list plan) (readIn plan ws last)
+-- the area after closing with a value
+abbrev pub CloseClause : Plan → (b : Bool) (ws : List ℕ) → List ℕ → Type 0
+CloseClause plan b ws o = o ≡ closedWith plan b ws
 
 -- the area at start
 abbrev pub BeginClause : (list : List ℕ) → Plan → (forms ws : List ℕ) → List ℕ → Type 0

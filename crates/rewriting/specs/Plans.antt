@@ -3,14 +3,14 @@ use mathlib.Core.Path.{_≡_}
 use mathlib.Core.Bool.{Bool}
 use mathlib.Core.List.{List}
 use Prim.Native.Nat.{ℕ, _≤_, _<_}
-use Rattle.forms.specs.Form.{Form}
+use Rattle.forms.specs.Form.{Form, constant}
 use Rattle.forms.specs.Words.{pack}
 use Rattle.forms.specs.Area.{formIn, putRows, Holds}
 use Rattle.meaning.specs.Rule.{Node, Entry, parameters}
 use Rattle.meaning.specs.Rewriting.{formsOf}
-use Rattle.meaning.specs.Words.{Known, leave, feed, close, valueIfLast}
+use Rattle.meaning.specs.Words.{Known, leave, feed}
 use Rattle.rewriting.specs.Decode.{byteOf, ruleIn}
-use Rattle.rewriting.specs.Known.{formAt, knownIn, areaOf, Tidy}
+use Rattle.rewriting.specs.Known.{formAt, pastIn, knownIn, areaOf, Tidy}
 use Rattle.rewriting.specs.declared.step.Plan.{Plan}
 use Rattle.rewriting.specs.declared.step.Moment.{Moment}
 
@@ -50,12 +50,9 @@ abbrev pub HoldsForms : List ℕ → Plan → List ℕ → Type 0
 HoldsForms list plan table =
     Holds (plan .m) table 0 (plan .records) (formsOf (plan .m) (ruleFor list plan) (plan .records))
 
--- closing: the value were this the last record, and the area where the past rows stay and the remainder is closed
-unfoldable pub closedWith : (plan : Plan) → List Node → Known (plan .m) → Bool × List ℕ
-closedWith plan rule s = (
-  valueIfLast (plan .m) rule s,
-  areaOf (plan .places) (plan .m) (s .past) (close (plan .m) rule s),
-)
+-- closing with a value: the past rows stay, and the remainder is that constant
+abbrev pub closedWith : Plan → Bool → List ℕ → List ℕ
+closedWith plan b ws = areaOf (plan .places) (plan .m) (pastIn (plan .m) ws) (constant (plan .m) b)
 
 -- what the functions on an area ask for: a sound plan, the table of its forms, and a tidy area
 abbrev pub Ready : (list : List ℕ) → Plan → (table ws : List ℕ) → Type 0

@@ -21,7 +21,7 @@ ghost use Prim.Native.Nat.{ℕ, _+_, _≤_, _<_};
 ghost use lib.Dec.{eqb};
 ghost use lib.ListN.{length};
 ghost use Rattle.ground.specs.Bits.{bit};
-ghost use Rattle.rewriting.specs.Known.{wordsFor};
+ghost use Rattle.rewriting.specs.Known.{wordsFor, Tidy};
 ghost use Rattle.rewriting.specs.Plans.{Sound, HoldsForms, Ready};
 ghost use Rattle.rewriting.specs.inside.Steps.{Fair};
 ghost use Rattle.rewriting.specs.inside.Endings.{Settled, lastRows, OfEnd, OfEnds};
@@ -104,17 +104,14 @@ pub fn value_if_last(list: &[u8], plan: Plan, last: Moment, forms: &[u64], area:
     value(load(area, plan.places), setting)
 }
 
-// Closing: the past rows stay, and the remainder is the constant.
-pub fn close(list: &[u8], plan: Plan, last: Moment, forms: &[u64], area: &mut [u64]) -> bool
-    requires { ⌜ Ready (now list) plan (now forms) (now area) ⌝ }
-    ensures { λ r. ⌜ CloseClause (now (list .entry)) plan last (now (forms .entry)) (now (area .entry))
-        (r, now (area .exit)) ⌝ }
+// Closing with a value: the past rows stay, and the remainder is that constant.
+pub fn close(plan: Plan, b: bool, area: &mut [u64])
+    requires { ⌜ (plan .places ≤ 12) × Tidy (plan .places) (plan .m) (now area) ⌝ }
+    ensures { λ _. ⌜ CloseClause plan b (now (area .entry)) (now (area .exit)) ⌝ }
 {
     let scratch = plan.places + 1;
-    let b = value_if_last(list, plan, last, forms, area);
     store(area, plan.places, constant(b));
     clear(area, scratch, scratch);
-    b
 }
 
 // The area at start: past rows zero, the remainder is the rule's form.

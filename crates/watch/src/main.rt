@@ -11,7 +11,7 @@ use watcher::state::Watcher;
 // Opens rule, signals and log, in that order of arguments, and prints the lines, with what a fourth one asks for.
 // A list that fills its buffer is longer than any, and refused.
 fn main() {
-    tell_usage(b"usage: watch RULE SIGNALS LOG [rows]\n");
+    tell_usage(b"usage: watch RULE SIGNALS LOG [rows | more]\n");
     let mut rule = [0u8; Watcher::LIST_BYTES + 1];
     let mut signals = [0u8; Watcher::LIST_BYTES + 1];
     let n = read_list(1, &mut rule);

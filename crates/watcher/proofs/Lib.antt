@@ -15,6 +15,7 @@ pub mod Testing
 pub mod TurnLaws
 pub mod Reports
 pub mod Turning
+pub mod Asking
 pub mod Lengths
 pub mod OnlyOne
 pub mod Machines

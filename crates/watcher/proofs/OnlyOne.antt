@@ -10,6 +10,7 @@ use Rattle.rewriting.specs.declared.step.Moment.{Moment}
 use Rattle.watcher.specs.declared.state.Watcher.{Watcher}
 use Rattle.watcher.specs.declared.state.Started.{Started}
 use Rattle.watcher.specs.declared.state.Fed.{Fed}
+use Rattle.watcher.specs.declared.state.End.{End}
 use Rattle.watcher.specs.declared.state.Ended.{Ended}
 use Rattle.watcher.specs.declared.state.Found.{Found}
 use Rattle.watcher.specs.declared.state.Refusal.{Refusal}
@@ -22,7 +23,7 @@ use Rattle.watcher.specs.Clauses.{LimitsClause, IsRefusedClause, WordCla
 use Rattle.watcher.specs.Clauses.{CheckRuleClause, CheckListsClause, NumberClause}
 use Rattle.watcher.specs.Clauses.{WrongRecordClause, TimeOfClause, SignalWordClause}
 use Rattle.watcher.specs.Clauses.{StartWouldRefuseClause, StartClause, WouldRefuseClause, FeedClause}
-use Rattle.watcher.specs.Clauses.{CloseClause, HorizonClause}
+use Rattle.watcher.specs.Clauses.{AskClause, CloseClause, HorizonClause}
 use Rattle.watcher.proofs.Numbers.{horizon-one}
 
 pub only-limits : (o o′ : Limits) → LimitsClause o → LimitsClause o′ → o ≡ o′
@@ -76,6 +77,9 @@ only-would-refuse w bytes ws = only-one _
 pub only-feed : (w : Watcher) (bytes ws : List ℕ) (o o′ : Fed × List ℕ) → FeedClause w bytes ws o
     → FeedClause w bytes ws o′ → o ≡ o′
 only-feed w bytes ws = only-one _
+
+pub only-ask : (w : Watcher) (ws : List ℕ) (o o′ : End × List ℕ) → AskClause w ws o → AskClause w ws o′ → o ≡ o′
+only-ask w ws = only-one _
 
 pub only-close : (w : Watcher) (ws : List ℕ) (o o′ : Ended × List ℕ) → CloseClause w ws o → CloseClause w ws o′
     → o ≡ o′

@@ -1,4 +1,4 @@
--- Start, feed and close: what each answers, the next state, and the whole work area afterwards.
+-- Start, feed, ask and close: what each answers, the next state, and the whole work area afterwards.
 use mathlib.Core.Bool.{Bool, true, false, not, cond}
 use mathlib.Core.List.{List, [], _∷_, _++_}
 use Prim.Native.Nat.{ℕ}
@@ -18,6 +18,7 @@ use Rattle.watcher.specs.declared.state.Found.{Found}
 use Rattle.watcher.specs.declared.state.Found.the-variants as found
 use Rattle.watcher.specs.declared.state.Report.{Report}
 use Rattle.watcher.specs.declared.state.Answer.the-variants as answer
+use Rattle.watcher.specs.declared.state.End.{End}
 use Rattle.watcher.specs.declared.state.End.the-variants as end
 use Rattle.watcher.specs.declared.state.Started.{Started}
 use Rattle.watcher.specs.declared.state.Fed.{Fed}
@@ -57,7 +58,7 @@ startTests rule signals ws =
 unfoldable pub startRefusal : (rule signals ws : List ℕ) → Found
 startRefusal rule signals ws = firstRefusal (startTests rule signals ws)
 
--- what feed and close test first: 7, 12, 10
+-- what feed, ask and close test first: 7, 12, 10
 unfoldable pub stateTests : Watcher → List ℕ → List Test
 stateTests w ws =
     record { holds = wrongArea ws; gives = refusal.AreaLength }
@@ -76,7 +77,7 @@ feedTests w bytes ws =
 unfoldable pub feedRefusal : Watcher → (bytes ws : List ℕ) → Found
 feedRefusal w bytes ws = firstRefusal (feedTests w bytes ws)
 
--- close tests 7, 12, 10, 11
+-- ask and close test 7, 12, 10, 11
 abbrev pub closeTests : Watcher → List ℕ → List Test
 closeTests w ws =
     stateTests w ws ++ (record { holds = isFresh (stageOf (w .phase)); gives = refusal.NothingFed } ∷ [])
@@ -170,6 +171,19 @@ feedOf w bytes ws = feedWith (feedRefusal w bytes ws) w bytes ws
 -- what is known at the end, by the last record
 unfoldable pub knownNow : (m : ℕ) → List ℕ → Stage → Known m
 knownNow m ws stage = knownIn mostParameters m ws (lastIn stage)
+
+-- the value were this the last record
+unfoldable pub valueNow : Watcher → List ℕ → Bool
+valueNow w ws =
+    valueIfLast (parametersOf w) (ruleOf w) (knownNow (parametersOf w) ws (stageOf (w .phase)))
+
+-- ask: the verdict that says this value
+unfoldable pub askWith : Found → Watcher → List ℕ → End
+askWith (found.Refused r) w ws = end.Refused r
+askWith found.Fine w ws = end.Closed (verdictFor (valueNow w ws))
+
+unfoldable pub askOf : Watcher → List ℕ → End
+askOf w ws = askWith (closeRefusal w ws) w ws
 
 -- close: the value were this the last record; the past rows stay, and the remainder is that constant
 unfoldable pub closeWith : Found → Watcher → List ℕ → Ended × List ℕ

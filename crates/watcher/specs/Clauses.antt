@@ -8,6 +8,7 @@ use Rattle.rewriting.specs.Plans.{entryFor}
 use Rattle.watcher.specs.declared.state.Watcher.{Watcher}
 use Rattle.watcher.specs.declared.state.Started.{Started}
 use Rattle.watcher.specs.declared.state.Fed.{Fed}
+use Rattle.watcher.specs.declared.state.End.{End}
 use Rattle.watcher.specs.declared.state.Ended.{Ended}
 use Rattle.watcher.specs.declared.state.Found.{Found}
 use Rattle.watcher.specs.declared.state.Refusal.{Refusal}
@@ -21,7 +22,7 @@ use Rattle.watcher.specs.Lists.{ruleRefusal, listsRefusal}
 use Rattle.watcher.specs.Records.{wrongRecord, timeOf, signalWord}
 use Rattle.watcher.specs.Numbers.{refusalNumber, decided, verdictValue, stageOf, lastIn, horizonFor}
 use Rattle.watcher.specs.State.{isRefused}
-use Rattle.watcher.specs.Calls.{zeroState, startRefusal, startOf, feedRefusal, feedOf, closeOf, waitOf}
+use Rattle.watcher.specs.Calls.{zeroState, startRefusal, startOf, feedRefusal, feedOf, askOf, closeOf, waitOf}
 
 -- the limits, as numbers
 abbrev pub LimitsClause : Limits → Type 0
@@ -82,6 +83,10 @@ WouldRefuseClause w bytes ws o = o ≡ feedRefusal w bytes ws
 -- feeding a record
 abbrev pub FeedClause : Watcher → (bytes ws : List ℕ) → Fed × List ℕ → Type 0
 FeedClause w bytes ws o = o ≡ feedOf w bytes ws
+
+-- asking how the log would end now; the area is left as it was
+abbrev pub AskClause : Watcher → (ws : List ℕ) → End × List ℕ → Type 0
+AskClause w ws o = o ≡ (askOf w ws, ws)
 
 -- closing the log
 abbrev pub CloseClause : Watcher → (ws : List ℕ) → Ended × List ℕ → Type 0

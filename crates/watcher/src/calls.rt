@@ -1,4 +1,4 @@
-// Start, feed and close: the refusals first, then the rewriting on the lent area.
+// Start, feed, ask and close: the refusals first, then the rewriting on the lent area.
 use crate::held::start_refuses;
 use crate::horizon::horizon_in;
 use crate::lists::records_of;
@@ -22,19 +22,21 @@ use crate::turns::close_area;
 use crate::turns::padded;
 use crate::turns::report_on;
 use crate::turns::rewrite_area;
+use crate::turns::value_now;
 use rewriting::step::Moment;
 ghost use mathlib.Core.Path.{_≡_};
 ghost use lib.ListN.{length};
 ghost use Rattle.rewriting.specs.Plans.{entryFor};
 ghost use Rattle.watcher.specs.declared.state.Found.the-variants.{Fine};
+ghost use Rattle.watcher.specs.declared.state.End.the-variants.{Closed};
 ghost use Rattle.watcher.specs.Limits.{areaWords};
 ghost use Rattle.watcher.specs.Lists.{listsRefusal};
 ghost use Rattle.watcher.specs.Calls.{freshState, runningState};
-ghost use Rattle.watcher.specs.Calls.{startWith, feedWith, closeWith};
-ghost use Rattle.watcher.specs.inside.Turns.{Passed, endedState};
-ghost use Rattle.watcher.specs.Numbers.{verdictFor};
+ghost use Rattle.watcher.specs.Calls.{startWith, feedWith};
+ghost use Rattle.watcher.specs.inside.Turns.{Passed, endedState, closeBy};
+ghost use Rattle.watcher.specs.Numbers.{verdictFor, verdictValue};
 ghost use Rattle.watcher.specs.Clauses.{StartWouldRefuseClause, StartClause, WouldRefuseClause, FeedClause};
-ghost use Rattle.watcher.specs.Clauses.{CloseClause, HorizonClause};
+ghost use Rattle.watcher.specs.Clauses.{AskClause, CloseClause, HorizonClause};
 
 // A fresh state with a rule and a list.
 fn fresh_state(rule: &[u8], signals: &[u8]) -> Watcher
@@ -75,6 +77,16 @@ fn verdict_for(value: bool) -> Verdict
         Verdict::Kept
     } else {
         Verdict::Broken
+    }
+}
+
+// The value that a verdict says.
+fn value_of(verdict: Verdict) -> bool
+    ensures { λ r. ⌜ r ≡ verdictValue verdict ⌝ }
+{
+    match verdict {
+        Verdict::Kept => true,
+        Verdict::Broken => false,
     }
 }
 
@@ -123,14 +135,12 @@ fn advance(watcher: Watcher, bytes: &[u8], area: &mut [u64]) -> Fed
     }
 }
 
-// Close a log that is not refused.
-fn finish(watcher: Watcher, area: &mut [u64]) -> Ended
+// Close a log that is not refused, with the verdict that asking gave.
+fn finish(watcher: Watcher, verdict: Verdict, area: &mut [u64]) -> Ended
     requires { ⌜ Passed watcher (now area) ⌝ }
-    ensures { λ r. ⌜ (r, now (area .exit)) ≡ closeWith Fine watcher (now (area .entry)) ⌝ }
+    ensures { λ r. ⌜ (r, now (area .exit)) ≡ closeBy watcher (now (area .entry)) (Closed verdict) ⌝ }
 {
-    let phase = watcher.phase;
-    let value = close_area(watcher, phase.last(), area);
-    let verdict = verdict_for(value);
+    close_area(watcher, value_of(verdict), area);
     Ended {
         answer: End::Closed(verdict),
         next: closed_state(watcher, verdict),
@@ -181,17 +191,28 @@ impl Watcher {
         }
     }
 
-    // Close the log.
-    pub fn close(self, area: &mut [u64]) -> Ended
-        ensures { λ r. ⌜ CloseClause self (now (area .entry)) (r, now (area .exit)) ⌝ }
+    // How the log ends, were this the last record.
+    pub fn ask(self, area: &[u64]) -> End
+        ensures { λ r. ⌜ AskClause self (now (area .entry)) (r, now (area .exit)) ⌝ }
     {
         let found = close_refusal(self, area);
         match found {
-            Found::Refused(refusal) => Ended {
+            Found::Refused(refusal) => End::Refused(refusal),
+            Found::Fine => End::Closed(verdict_for(value_now(self, area))),
+        }
+    }
+
+    // Close the log, as asking answers.
+    pub fn close(self, area: &mut [u64]) -> Ended
+        ensures { λ r. ⌜ CloseClause self (now (area .entry)) (r, now (area .exit)) ⌝ }
+    {
+        let end = self.ask(area);
+        match end {
+            End::Refused(refusal) => Ended {
                 answer: End::Refused(refusal),
                 next: self,
             },
-            Found::Fine => finish(self, area),
+            End::Closed(verdict) => finish(self, verdict, area),
         }
     }
 

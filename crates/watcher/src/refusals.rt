@@ -93,7 +93,7 @@ fn is_closed(phase: Phase) -> bool
     }
 }
 
-// What feed and close test first: refusals 7, 12 and 10.
+// What feed, ask and close test first: refusals 7, 12 and 10.
 fn state_refusal(watcher: Watcher, area: &[u64]) -> Found
     ensures { λ r. ⌜ r ≡ firstRefusal (stateTests watcher (now (area .entry))) ⌝ }
 {
@@ -160,7 +160,7 @@ pub(crate) fn feed_refusal(watcher: Watcher, bytes: &[u8], area: &[u64]) -> Foun
     }
 }
 
-// What is refused of closing: refusals 7, 12, 10 and 11.
+// What is refused of asking and of closing: refusals 7, 12, 10 and 11.
 pub(crate) fn close_refusal(watcher: Watcher, area: &[u64]) -> Found
     ensures { λ r. ⌜ r ≡ closeRefusal watcher (now (area .entry)) ⌝ }
 {

@@ -64,7 +64,7 @@ pub enum Answer {
     Refused(Refusal),
 }
 
-// The answer to closing.
+// The answer to asking and to closing: how the log ends here.
 pub enum End {
     Closed(Verdict),
     Refused(Refusal),

@@ -1,4 +1,4 @@
-// What start, feed and close make of the lent area.
+// What start, feed and close make of the lent area, and what asking reads of it.
 use crate::lists::records_of;
 use crate::state::Phase;
 use crate::state::Report;
@@ -19,12 +19,12 @@ ghost use Prim.Native.Nat.{_≤_};
 ghost use lib.ListN.{length};
 ghost use Rattle.meaning.specs.Words.{word};
 ghost use Rattle.forms.specs.Rows.{OfForm};
-ghost use Rattle.rewriting.specs.Plans.{Sound, HoldsForms, readIn, closedWith};
+ghost use Rattle.rewriting.specs.Plans.{Sound, HoldsForms, closedWith};
 ghost use Rattle.watcher.specs.Limits.{mostRecords, mostParameters, areaWords};
 ghost use Rattle.watcher.specs.Numbers.{saying};
 ghost use Rattle.watcher.specs.Rules.{recordsOf};
-ghost use Rattle.watcher.specs.State.{ruleOf, parametersOf};
-ghost use Rattle.watcher.specs.Calls.{padded as paddedOf};
+ghost use Rattle.watcher.specs.State.{parametersOf};
+ghost use Rattle.watcher.specs.Calls.{padded as paddedOf, valueNow};
 ghost use Rattle.watcher.specs.inside.Turns.{planOn, planOf, planIn, Passed, rewrittenOf, ReportsOn, begunOf};
 
 // A list with zeros behind it.
@@ -111,14 +111,24 @@ pub(crate) fn rewrite_area(watcher: Watcher, new: Moment, area: &mut [u64])
     }
 }
 
-// The area after closing, and the value were this the last record.
-pub(crate) fn close_area(watcher: Watcher, last: Moment, area: &mut [u64]) -> bool
+// The value were this the last record.
+pub(crate) fn value_now(watcher: Watcher, area: &[u64]) -> bool
     requires { ⌜ Passed watcher (now area) ⌝ }
-    ensures { λ r. ⌜ (r, now (area .exit)) ≡ closedWith (planOf watcher) (ruleOf watcher)
-        (readIn (planOf watcher) (now (area .entry)) last) ⌝ }
+    ensures { λ r. ⌜ r ≡ valueNow watcher (now (area .entry)) ⌝ }
+{
+    let rule = watcher.rule;
+    let phase = watcher.phase;
+    let plan = plan_for(&rule, watcher.records);
+    let table = table_for(&rule, plan);
+    ending::value_if_last(&rule, plan, phase.last(), &table, area)
+}
+
+// The area after closing with a value.
+pub(crate) fn close_area(watcher: Watcher, b: bool, area: &mut [u64])
+    requires { ⌜ Passed watcher (now area) ⌝ }
+    ensures { λ _. ⌜ now (area .exit) ≡ closedWith (planOf watcher) b (now (area .entry)) ⌝ }
 {
     let rule = watcher.rule;
     let plan = plan_for(&rule, watcher.records);
-    let table = table_for(&rule, plan);
-    ending::close(&rule, plan, last, &table, area)
+    ending::close(plan, b, area);
 }

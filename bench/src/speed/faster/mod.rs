@@ -33,4 +33,4 @@ mod table;
 #[path = "../plain/walk.rs"]
 mod walk;
 
-pub use calls::{close, feed, run, start};
+pub use calls::{ask, close, feed, run, start};

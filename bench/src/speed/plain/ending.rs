@@ -37,14 +37,17 @@ fn last_setting(list: &[u8], plan: Plan, last: Moment, forms: &[u64], area: &[u6
     setting
 }
 
-/// Closing: the past rows stay, and the remainder is the constant.
-pub fn close(list: &[u8], plan: Plan, last: Moment, forms: &[u64], area: &mut [u64]) -> bool {
-    let scratch = plan.places + 1;
+/// The value were this the last record.
+pub fn value_if_last(list: &[u8], plan: Plan, last: Moment, forms: &[u64], area: &[u64]) -> bool {
     let setting = last_setting(list, plan, last, forms, area);
-    let b = value(row_at(area, plan.places), setting);
+    value(row_at(area, plan.places), setting)
+}
+
+/// Closing with a value: the past rows stay, and the remainder is that constant.
+pub fn close(plan: Plan, b: bool, area: &mut [u64]) {
+    let scratch = plan.places + 1;
     store(area, plan.places, &constant(b));
     clear(area, scratch, scratch);
-    b
 }
 
 /// The area at start: past rows zero, the remainder is the rule's form.

@@ -18,4 +18,4 @@ mod state;
 mod table;
 mod walk;
 
-pub use calls::{close, feed, run, start};
+pub use calls::{ask, close, feed, run, start};

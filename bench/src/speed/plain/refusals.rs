@@ -34,7 +34,7 @@ pub fn start_refusal(rule: &[u8], signals: &[u8], area: &[u64]) -> Option<u8> {
     lists_refusal(rule, signals).or((area.len() != Watcher::WORDS).then_some(7))
 }
 
-/// What feed and close test first: refusals 7, 12 and 10.
+/// What feed, ask and close test first: refusals 7, 12 and 10.
 fn state_refusal(watcher: &Watcher, area: &[u64]) -> Option<u8> {
     if area.len() != Watcher::WORDS {
         return Some(7);
@@ -59,7 +59,7 @@ pub fn feed_refusal(watcher: &Watcher, record: &[u8], area: &[u64]) -> Option<u8
     }
 }
 
-/// What is refused of closing: refusals 7, 12, 10 and 11.
+/// What is refused of asking and of closing: refusals 7, 12, 10 and 11.
 pub fn close_refusal(watcher: &Watcher, area: &[u64]) -> Option<u8> {
     if let Some(number) = state_refusal(watcher, area) {
         return Some(number);

@@ -1,7 +1,7 @@
-// The watcher's answers as letters: K, B and P for words and verdicts, a hexadecimal digit for a refusal.
+// The watcher's answers as letters: K, B and P for words, two letters that are given for verdicts, a hexadecimal digit
+// for a refusal.
 use watcher::state::Answer;
 use watcher::state::End;
-use watcher::state::Refusal;
 use watcher::state::Verdict;
 use watcher::state::Word;
 
@@ -15,43 +15,28 @@ pub(crate) fn number_letter(number: usize) -> u8 {
     }
 }
 
-// The digit of a refusal's number.
-pub(crate) fn refusal_letter(refusal: Refusal) -> u8 {
-    number_letter(refusal.number())
-}
-
-// A word's letter.
-fn word_letter(word: Word) -> u8 {
-    match word {
-        Word::Kept => b'K',
-        Word::Broken => b'B',
-        Word::Pending => b'P',
-    }
-}
-
-// A verdict's letter.
-fn verdict_letter(verdict: Verdict) -> u8 {
-    match verdict {
-        Verdict::Kept => b'K',
-        Verdict::Broken => b'B',
-    }
-}
-
 // The letter of an answer to a record.
 pub(crate) fn answer_letter(answer: Answer) -> u8 {
     match answer {
         Answer::Accepted(report) => {
             let word = report.word;
-            word_letter(word)
+            match word {
+                Word::Kept => b'K',
+                Word::Broken => b'B',
+                Word::Pending => b'P',
+            }
         }
-        Answer::Refused(refusal) => refusal_letter(refusal),
+        Answer::Refused(refusal) => number_letter(refusal.number()),
     }
 }
 
-// The letter of an answer to closing.
-pub(crate) fn end_letter(end: End) -> u8 {
+// The letter of an answer to closing or asking, with one for kept and one for broken.
+pub(crate) fn end_letter(end: End, kept: u8, broken: u8) -> u8 {
     match end {
-        End::Closed(verdict) => verdict_letter(verdict),
-        End::Refused(refusal) => refusal_letter(refusal),
+        End::Closed(verdict) => match verdict {
+            Verdict::Kept => kept,
+            Verdict::Broken => broken,
+        },
+        End::Refused(refusal) => number_letter(refusal.number()),
     }
 }

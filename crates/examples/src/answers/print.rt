@@ -12,17 +12,12 @@ pub(crate) fn number(n: u64) {
     io::print_decimal(STDOUT_FILENO, n);
 }
 
-// Writes bytes in hexadecimal, two digits each.
-fn hex(bytes: &[u8]) {
+// Writes a name and the bytes of a list in hexadecimal, two digits each.
+fn list(name: &[u8], bytes: &[u8]) {
+    text(name);
     for place in 0..bytes.len() {
         io::print_hex(STDOUT_FILENO, byte(bytes, place) as u64, 2);
     }
-}
-
-// Writes a name and the bytes of a list.
-fn list(name: &[u8], bytes: &[u8]) {
-    text(name);
-    hex(bytes);
 }
 
 // Writes a line with a difference: the case whole, what was said and what was wanted.

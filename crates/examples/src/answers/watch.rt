@@ -1,8 +1,9 @@
 // One log through the watcher, as letters: the digit of a refused start alone, or a letter for each 16 bytes of the
-// log, a point, and the letter of closing.
+// log, a point, the letter of closing, a blank, and the letters of asking: after the start, after each 16 bytes, and
+// after closing.
 use crate::answers::letters::answer_letter;
 use crate::answers::letters::end_letter;
-use crate::answers::letters::refusal_letter;
+use crate::answers::letters::number_letter;
 use crate::bytes::part;
 use crate::bytes::pieces;
 use crate::bytes::put;
@@ -19,24 +20,36 @@ fn fed(watcher: Watcher, piece: &[u8], n: usize, said: &mut [u8], area: &mut [u6
     next
 }
 
-// The letter of closing.
-fn ended(watcher: Watcher, area: &mut [u64]) -> u8 {
+// Closes, writes the letter at a place, and answers the next state.
+fn closed(watcher: Watcher, place: usize, said: &mut [u8], area: &mut [u64]) -> Watcher {
     let ended = watcher.close(area);
     let answer = ended.answer;
-    end_letter(answer)
+    put(said, place, end_letter(answer, b'K', b'B'));
+    let next = ended.next;
+    next
 }
 
-// Feeds the log to a watcher that started, closes it, and answers how many letters it wrote.
+// Asks, and writes the letter at a place.
+fn ask(watcher: Watcher, place: usize, said: &mut [u8], area: &[u64]) {
+    let end = watcher.ask(area);
+    put(said, place, end_letter(end, b'y', b'n'));
+}
+
+// Feeds the log to a watcher that started, closes it, asks after each call, and answers how many letters it wrote.
 fn whole(start: Watcher, log: &[u8], said: &mut [u8], area: &mut [u64]) -> usize {
     let mut watcher = start;
     let count = pieces(log, 16, 12);
+    ask(watcher, count + 3, said, area);
     for n in 0..count {
         let next = fed(watcher, part(log, 16 * n, 16), n, said, area);
+        ask(next, count + 4 + n, said, area);
         watcher = next;
     }
     put(said, count, b'.');
-    put(said, count + 1, ended(watcher, area));
-    count + 2
+    let last = closed(watcher, count + 1, said, area);
+    put(said, count + 2, b' ');
+    ask(last, 2 * count + 4, said, area);
+    2 * count + 5
 }
 
 // The watcher that starts with the lists; one of zeros where they are refused.
@@ -57,7 +70,7 @@ pub(crate) fn run(
     let found = Watcher::start_would_refuse(rule, signals, area);
     match found {
         Found::Refused(refusal) => {
-            put(said, 0, refusal_letter(refusal));
+            put(said, 0, number_letter(refusal.number()));
             1
         }
         Found::Fine => whole(started(rule, signals, area), log, said, area),

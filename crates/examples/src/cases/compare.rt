@@ -13,28 +13,22 @@ use crate::judge::letters::wanted;
 use crate::judge::lists::lists_refusal;
 use crate::judge::reach::NEVER;
 use crate::judge::reach::horizon;
-use crate::tally::count_difference;
-use crate::tally::count_horizon;
+use crate::tally::DIFFERENCES;
+use crate::tally::HORIZON;
+use crate::tally::NO_HORIZON;
+use crate::tally::count;
 use crate::tally::count_letters;
 
-// The second evaluator's horizon of the lists; never where they are refused.
-fn horizon_wanted(rule: &[u8], signals: &[u8]) -> u64 {
-    if lists_refusal(rule, signals) == 0 {
-        horizon(rule)
-    } else {
-        NEVER
-    }
-}
-
-// Compares the horizon that the watcher says with the second evaluator's.
+// Compares the horizon that the watcher says with the second evaluator's; it is never where the lists are refused.
 fn compare_horizon(rule: &[u8], signals: &[u8], area: &mut [u64], tally: &mut [u64]) {
     let said = horizon_said(rule, signals, area, NEVER);
-    let mine = horizon_wanted(rule, signals);
-    count_horizon(tally, said == NEVER);
+    let refused = lists_refusal(rule, signals) != 0;
+    let mine = if refused { NEVER } else { horizon(rule) };
+    count(tally, if said == NEVER { NO_HORIZON } else { HORIZON });
     if said == mine {
         return;
     }
-    count_difference(tally);
+    count(tally, DIFFERENCES);
     difference(rule, signals, b"", b"another horizon", b"");
 }
 
@@ -44,14 +38,14 @@ fn settle(rule: &[u8], signals: &[u8], log: &[u8], said: &[u8], mine: &[u8], tal
     if agree(said, mine) {
         return;
     }
-    count_difference(tally);
+    count(tally, DIFFERENCES);
     difference(rule, signals, log, said, mine);
 }
 
 // Compares one case.
 fn compare(rule: &[u8], signals: &[u8], log: &[u8], area: &mut [u64], tally: &mut [u64]) {
-    let mut letters = [0u8; 16];
-    let mut hoped = [0u8; 16];
+    let mut letters = [0u8; 32];
+    let mut hoped = [0u8; 32];
     let letters_count = run(rule, signals, log, &mut letters, area);
     let hoped_count = wanted(rule, signals, log, &mut hoped);
     let said = first(&letters, letters_count);

@@ -1,4 +1,4 @@
--- What the functions behind start, feed and close say. Nobody outside has to believe it.
+-- What the functions behind start, feed, ask and close say. Nobody outside has to believe it.
 use mathlib.Core.Path.{_≡_}
 use mathlib.Core.Bool.{false}
 use mathlib.Core.List.{List, []}
@@ -11,14 +11,17 @@ use Rattle.rewriting.specs.declared.step.Plan.{Plan}
 use Rattle.rewriting.specs.declared.step.Moment.{Moment}
 use Rattle.rewriting.specs.Decode.{ruleIn}
 use Rattle.rewriting.specs.Known.{areaOf}
-use Rattle.rewriting.specs.Plans.{entryFor}
+use Rattle.rewriting.specs.Plans.{entryFor, closedWith}
 use Rattle.watcher.specs.declared.state.Report.{Report}
 use Rattle.watcher.specs.declared.state.Verdict.{Verdict}
 use Rattle.watcher.specs.declared.state.Phase.the-variants as phase
+use Rattle.watcher.specs.declared.state.End.{End}
+use Rattle.watcher.specs.declared.state.End.the-variants as end
+use Rattle.watcher.specs.declared.state.Ended.{Ended}
 use Rattle.watcher.specs.declared.state.Watcher.{Watcher}
 use Rattle.watcher.specs.Limits.{mostParameters, areaWords}
 use Rattle.watcher.specs.Rules.{recordsOf}
-use Rattle.watcher.specs.Numbers.{stageOf}
+use Rattle.watcher.specs.Numbers.{verdictValue, stageOf}
 use Rattle.watcher.specs.State.{ruleOf, parametersOf, brokenState}
 use Rattle.watcher.specs.Calls.{knownNext, reportOf}
 
@@ -61,6 +64,14 @@ endedState w verdict =
       signals = w .signals;
       phase = phase.Closed verdict;
     }
+
+-- closing by what asking answers
+unfoldable pub closeBy : Watcher → List ℕ → End → Ended × List ℕ
+closeBy w ws (end.Refused r) = (record { answer = end.Refused r; next = w }, ws)
+closeBy w ws (end.Closed v) = (
+  record { answer = end.Closed v; next = endedState w v },
+  closedWith (planOf w) (verdictValue v) ws,
+)
 
 -- the area at start
 unfoldable pub begunOf : List ℕ → List ℕ

@@ -1,21 +1,23 @@
 -- `text::put_ending` goes by the answer.
 -- Assumes nothing.
 use borrow.Author.Needs.{needs}
-use mathlib.Core.Path.{sym}
 use Rattle.watcher.specs.declared.state.End.the-variants.{Closed, Refused}
-use Rattle.lines.specs.Text.{wordLine, endText}
-use Rattle.lines.proofs.Texts.{same-text}
+use Rattle.lines.specs.Text.{endText}
+use Rattle.lines.proofs.Texts.{text-then, same-text}
 use Rattle.lines.proofs.text.put_ending.Statement.{statement}
 use Rattle.lines.proofs.text.put_ending.Tie as tie
 
 enum-known-end : tie.Need-enum-known-end
 enum-known-end c = search needs
 
-word-requires : tie.Need-word-requires
-word-requires c κs = search needs
+put-verdict-requires : tie.Need-put-verdict-requires
+put-verdict-requires c κs = search needs
 
-put-word-line-requires : tie.Need-put-word-line-requires
-put-word-line-requires c κs = search needs
+slice-aggregate-put-text : tie.Need-slice-aggregate-put-text
+slice-aggregate-put-text c = search needs
+
+put-text-requires : tie.Need-put-text-requires
+put-text-requires c κs = search needs
 
 enum-known-end-2 : tie.Need-enum-known-end-2
 enum-known-end-2 c = search needs
@@ -29,10 +31,10 @@ same-length c = search needs
 returns : tie.Need-returns
 unfolding endText
 returns c =
-    let call = c .before .before in
-    let word = call .before in
-    same-text endText _ (Closed _) _ _ (word .before .before .before .end .given .1)
-    (same-text wordLine _ _ _ _ (sym (word .word .ensures)) (call .put-word-line .ensures))
+    let line = c .before .before in
+    let verdict = line .before .before .before .before .before in
+    same-text endText _ (Closed _) _ _ (verdict .before .before .before .end .given .1)
+    (text-then _ _ _ _ _ (verdict .put-verdict .ensures) (line .put-text .ensures))
 
 same-length-2 : tie.Need-same-length-2
 same-length-2 c = search needs
@@ -49,8 +51,9 @@ put-ending-spec =
     tie.close
     (tie.spec
     enum-known-end
-    word-requires
-    put-word-line-requires
+    put-verdict-requires
+    slice-aggregate-put-text
+    put-text-requires
     enum-known-end-2
     put-refused-requires
     same-length

@@ -23,9 +23,9 @@ same-length-2 c = search needs
 returns : tie.Need-returns
 returns c =
     let put = c .before .before in
-    let fed = put .before .before .before .before .before .before in
-    feed-turned _ _ _ _ _ _ _ _ _ (fed .feed .ensures) (put .before .time-of .ensures)
-    (put .put-answer .ensures)
+    let time = put .before .before in
+    let fed = time .before .before .before .before .before in
+    feed-turned _ _ _ _ _ _ _ _ _ _ (fed .feed .ensures) (time .time-of .ensures) (put .put-answer .ensures)
 
 pub feed-line-spec : {M : Type 1} → statement M
 feed-line-spec =

@@ -8,9 +8,6 @@ use Rattle.rewriting.proofs.ending.close.Tie as tie
 add-scratch : tie.Need-add-scratch
 add-scratch c = search needs
 
-value-if-last-requires : tie.Need-value-if-last-requires
-value-if-last-requires c κs = search needs
-
 constant-requires : tie.Need-constant-requires
 constant-requires c κs = search needs
 
@@ -26,13 +23,11 @@ same-length c = search needs
 returns : tie.Need-returns
 returns c =
     let stored = c .before .before .before .before .before .before in
-    let valued = stored .before .before .before in
-    let entry = valued .before .before .before .before .before .before in
-    closed-laid (entry .args .plan) _ (entry .args .last) _ _ _ _ _ (entry .pre .2) (valued .value-if-last .ensures)
-    (stored .before .constant .ensures _)
+    let entry = stored .before .before .before .before .before in
+    closed-laid (entry .args .plan) _ _ _ _ _ (entry .pre .1) (stored .before .constant .ensures _)
     (record { rest = stored .store .ensures; zeros = c .before .before .clear .ensures })
 
 pub close-spec : {M : Type 1} → statement M
 close-spec =
     tie.close
-    (tie.spec add-scratch value-if-last-requires constant-requires store-requires clear-requires same-length returns)
+    (tie.spec add-scratch constant-requires store-requires clear-requires same-length returns)

@@ -1,8 +1,9 @@
 -- `turns::close_area` meets its contract: the plan is that of the state's rule.
 -- Assumes nothing.
 use borrow.Author.Needs.{needs}
-use Rattle.watcher.proofs.Turning.{sound-as, plan-records, tidy-as, closed-as}
+use Rattle.watcher.proofs.Turning.{sound-as, tidy-as}
 use Rattle.watcher.proofs.TurnLaws.{passed-most, passed-sound, passed-tidy}
+use Rattle.watcher.proofs.Asking.{closed-as}
 use Rattle.watcher.proofs.turns.close_area.Statement.{statement}
 use Rattle.watcher.proofs.turns.close_area.Tie as tie
 
@@ -12,30 +13,12 @@ slice-aggregate-plan-for c = search needs
 plan-for-requires : tie.Need-plan-for-requires
 plan-for-requires c κs = passed-most _ _ (c .before .before .before .pre)
 
-slice-aggregate-table-for : tie.Need-slice-aggregate-table-for
-slice-aggregate-table-for c = search needs
-
-table-for-requires : tie.Need-table-for-requires
-table-for-requires c κs =
-    let p = c .before .before .before .before .before .pre in
-    let held = slice-aggregate-plan-for (c .before .before) in (
-      sound-as _ _ _ (c .before .plan-for .ensures) (passed-sound _ _ p held),
-      plan-records _ _ _ (c .before .plan-for .ensures) (passed-most _ _ p),
-    )
-
-slice-aggregate-close : tie.Need-slice-aggregate-close
-slice-aggregate-close c = search needs
-
-slice-aggregate-close-2 : tie.Need-slice-aggregate-close-2
-slice-aggregate-close-2 c = search needs
-
 close-requires : tie.Need-close-requires
 close-requires c κs =
-    let p = c .before .before .before .before .before .before .before .before .before .pre in
-    let held = slice-aggregate-plan-for (c .before .before .before .before .before .before) in (
-      sound-as _ _ _ (c .before .before .before .before .before .plan-for .ensures) (passed-sound _ _ p held),
-      c .before .before .before .table-for .ensures,
-      tidy-as _ _ _ (c .before .before .before .before .before .plan-for .ensures) (passed-tidy _ _ p held),
+    let p = c .before .before .before .before .before .pre in
+    let held = slice-aggregate-plan-for (c .before .before) in (
+      sound-as _ _ _ (c .before .plan-for .ensures) (passed-sound _ _ p held) .room,
+      tidy-as _ _ _ (c .before .plan-for .ensures) (passed-tidy _ _ p held),
     )
 
 same-length : tie.Need-same-length
@@ -43,19 +26,10 @@ same-length c = search needs
 
 returns : tie.Need-returns
 returns c =
-    let c₈ = c .before .before .before .before .before .before .before .before in
-    closed-as _ _ _ _ _ _ (c₈ .plan-for .ensures) (c .before .before .close .ensures)
+    let c₂ = c .before .before in
+    closed-as _ _ _ _ _ (c₂ .before .before .plan-for .ensures) (c₂ .close .ensures)
 
 pub close-area-spec : {M : Type 1} → statement M
 close-area-spec =
     tie.close
-    (tie.spec
-    slice-aggregate-plan-for
-    plan-for-requires
-    slice-aggregate-table-for
-    table-for-requires
-    slice-aggregate-close
-    slice-aggregate-close-2
-    close-requires
-    same-length
-    returns)
+    (tie.spec slice-aggregate-plan-for plan-for-requires close-requires same-length returns)

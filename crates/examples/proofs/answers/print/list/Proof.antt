@@ -1,15 +1,20 @@
--- `answers::print::hex` is safe and ends: its loop counts up to a fixed end.
+-- `answers::print::list` is safe and ends: its loop counts up to a fixed end.
 -- Assumes nothing.
 use Prim.Native.Nat.{_-_, _≤_}
+use lib.ListN.{length}
 use borrow.Author.Needs.{needs}
-use Rattle.examples.proofs.answers.print.hex.Statement.{statement}
-use Rattle.examples.proofs.answers.print.hex.Tie as tie
+use Rattle.examples.proofs.answers.print.list.Statement.{statement}
+use Rattle.examples.proofs.answers.print.list.Tie as tie
 
 abbrev Inv-loop : tie.InvT-loop
-Inv-loop bytes place₀ place-end place = place ≤ place-end
+Inv-loop name bytes place₀ place-end place =
+    place ≤ length bytes
 
 abbrev μ-loop : tie.MeasureT-loop
-μ-loop bytes place₀ place-end place = place-end - place
+μ-loop name bytes place₀ place-end place = length bytes - place
+
+text-requires : tie.Need-text-requires Inv-loop μ-loop
+text-requires c κs = search needs
 
 loop-holds : tie.Need-loop-holds Inv-loop μ-loop
 loop-holds c = search needs
@@ -35,12 +40,13 @@ loop-again c = search needs
 returns : tie.Need-returns Inv-loop μ-loop
 returns c = search needs
 
-pub hex-spec : {M : Type 1} → statement M
-hex-spec =
+pub list-spec : {M : Type 1} → statement M
+list-spec =
     tie.close
     (tie.spec
     Inv-loop
     μ-loop
+    text-requires
     loop-holds
     byte-requires
     cast-print-hex

@@ -1,11 +1,11 @@
--- `text::put_answer` goes by the answer.
+-- `records::put_answer` goes by the answer.
 -- Assumes nothing.
 use borrow.Author.Needs.{needs}
 use Rattle.watcher.specs.declared.state.Answer.the-variants.{Accepted, Refused}
 use Rattle.lines.specs.Text.{answerLine}
 use Rattle.lines.proofs.Texts.{same-text}
-use Rattle.lines.proofs.text.put_answer.Statement.{statement}
-use Rattle.lines.proofs.text.put_answer.Tie as tie
+use Rattle.lines.proofs.records.put_answer.Statement.{statement}
+use Rattle.lines.proofs.records.put_answer.Tie as tie
 
 enum-known-answer : tie.Need-enum-known-answer
 enum-known-answer c = search needs
@@ -27,7 +27,7 @@ unfolding answerLine
 returns c =
     let call = c .before .before in
     let case = call .before .before .before in
-    same-text (answerLine _) _ (Accepted _) _ _ (case .answer .given .1) (call .put-told .ensures)
+    same-text (answerLine _ _) _ (Accepted _) _ _ (case .answer .given .1) (call .put-told .ensures)
 
 same-length-2 : tie.Need-same-length-2
 same-length-2 c = search needs
@@ -37,7 +37,7 @@ unfolding answerLine
 returns-2 c =
     let call = c .before .before in
     let case = call .before .before .before in
-    same-text (answerLine _) _ (Refused _) _ _ (case .answer2 .given .1) (call .put-refused .ensures)
+    same-text (answerLine _ _) _ (Refused _) _ _ (case .answer2 .given .1) (call .put-refused .ensures)
 
 pub put-answer-spec : {M : Type 1} → statement M
 put-answer-spec =

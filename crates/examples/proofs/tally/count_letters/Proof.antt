@@ -1,17 +1,18 @@
--- `tally::count_words` is safe and ends: its loop counts up to a fixed end.
+-- `tally::count_letters` is safe and ends: its loop counts up to a fixed end.
 -- Assumes nothing.
 use mathlib.Core.Path.{_≡_}
 use Prim.Native.Nat.{_-_, _≤_}
 use lib.ListN.{length}
 use borrow.Author.Needs.{needs}
-use Rattle.examples.proofs.tally.count_words.Statement.{statement}
-use Rattle.examples.proofs.tally.count_words.Tie as tie
+use Rattle.examples.proofs.tally.count_letters.Statement.{statement}
+use Rattle.examples.proofs.tally.count_letters.Tie as tie
 
 abbrev Inv-loop : tie.InvT-loop
-Inv-loop tally₀ said words place₀ tally place = (place ≤ words) × (length tally ≡ length tally₀)
+Inv-loop tally₀ said before₀ place₀ place-end tally before place =
+    (place ≤ length said) × (length tally ≡ length tally₀)
 
 abbrev μ-loop : tie.MeasureT-loop
-μ-loop tally₀ said words place₀ tally place = words - place
+μ-loop tally₀ said before₀ place₀ place-end tally before place = length said - place
 
 loop-holds : tie.Need-loop-holds Inv-loop μ-loop
 loop-holds c = search needs
@@ -19,8 +20,8 @@ loop-holds c = search needs
 byte-requires : tie.Need-byte-requires Inv-loop μ-loop
 byte-requires c κs = search needs
 
-cast-count : tie.Need-cast-count Inv-loop μ-loop
-cast-count c = search needs
+place-behind-requires : tie.Need-place-behind-requires Inv-loop μ-loop
+place-behind-requires c κs = search needs
 
 count-requires : tie.Need-count-requires Inv-loop μ-loop
 count-requires c κs = search needs
@@ -40,15 +41,15 @@ same-length c = search needs
 returns : tie.Need-returns Inv-loop μ-loop
 returns c = search needs
 
-pub count-words-spec : {M : Type 1} → statement M
-count-words-spec =
+pub count-letters-spec : {M : Type 1} → statement M
+count-letters-spec =
     tie.close
     (tie.spec
     Inv-loop
     μ-loop
     loop-holds
     byte-requires
-    cast-count
+    place-behind-requires
     count-requires
     add-place
     loop-less
