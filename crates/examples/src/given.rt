@@ -1,6 +1,6 @@
 // What document 01 gives: the rules of its examples, and logs of two signals, which the two vents carry.
-use crate::bytes::part;
-use crate::bytes::pieces;
+use crate::judge::bytes::part;
+use crate::judge::bytes::pieces;
 use crate::made::put_in;
 use crate::made::put_interval;
 use crate::made::put_rule;

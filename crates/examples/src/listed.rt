@@ -3,16 +3,29 @@ use crate::answers::print::difference;
 use crate::answers::print::number;
 use crate::answers::print::text;
 use crate::answers::watch::run;
-use crate::bytes::first;
-use crate::bytes::same;
 use crate::given::put_steps;
 use crate::given::rule_a;
 use crate::given::rule_b;
 use crate::given::rule_nothing;
 use crate::given::vent_signals;
+use crate::judge::bytes::first;
 use crate::made::put_rule;
 use crate::made::put_signal;
 use crate::made::put_wind;
+use ground::bytes::byte;
+
+// Whether two texts are the same.
+pub(crate) fn same(a: &[u8], b: &[u8]) -> bool {
+    if a.len() != b.len() {
+        return false;
+    }
+    for place in 0..a.len() {
+        if byte(a, place) != byte(b, place) {
+            return false;
+        }
+    }
+    true
+}
 
 // Runs one log and answers whether the watcher said what is wanted; else the difference is written.
 fn right(rule: &[u8], signals: &[u8], log: &[u8], wanted: &[u8], area: &mut [u64]) -> bool {
@@ -74,44 +87,44 @@ fn wind(strength: u64, unit: u8, wanted: &[u8], area: &mut [u64]) -> bool {
 
 // Examples 1 to 4.
 fn until_examples(area: &mut [u64]) {
-    tell(1, a(b"0;1,0 1;1,0 2;0,1", b"PPP.K bnnya", area));
-    tell(2, a(b"0;1,0 3;0,1", b"PB.B bnna", area));
-    tell(3, a(b"0;1,0 2;0,1", b"PP.K bnya", area));
-    tell(4, a(b"0;1,0", b"P.B bna", area));
+    tell(1, a(b"0;1,0 1;1,0 2;0,1", b"PPP.K nnya", area));
+    tell(2, a(b"0;1,0 3;0,1", b"PB.B nna", area));
+    tell(3, a(b"0;1,0 2;0,1", b"PP.K nya", area));
+    tell(4, a(b"0;1,0", b"P.B na", area));
 }
 
 // Examples 5 to 8.
 fn minute_and_since_examples(area: &mut [u64]) {
-    tell(5, a(b"5;1,0 5;0,1", b"PP.K bnya", area));
-    tell(6, a(b"0;0,0 0;0,0", b"PB.B bnna", area));
-    tell(7, b(b"0;0,1 1;1,0", b"PP.K bnya", area));
-    tell(8, b(b"0;0,1 2;1,0", b"PP.B bnna", area));
+    tell(5, a(b"5;1,0 5;0,1", b"PP.K nya", area));
+    tell(6, a(b"0;0,0 0;0,0", b"PB.B nna", area));
+    tell(7, b(b"0;0,1 1;1,0", b"PP.K nya", area));
+    tell(8, b(b"0;0,1 2;1,0", b"PP.B nna", area));
 }
 
 // Example 9.
 fn nothing_example(area: &mut [u64]) {
     let rule = rule_nothing();
-    tell(9, vents(&rule, b"0;0,0", b"B.B bna", area));
+    tell(9, vents(&rule, b"0;0,0", b"B.B na", area));
 }
 
 // Examples 10 and 11.
 fn wind_examples(area: &mut [u64]) {
-    let met = wind(432, 0, b"P.K bya", area);
-    let less = wind(431, 0, b"P.B bna", area);
-    let third = wind(144, 0, b"P.B bna", area);
+    let met = wind(432, 0, b"P.K ya", area);
+    let less = wind(431, 0, b"P.B na", area);
+    let third = wind(144, 0, b"P.B na", area);
     tell(10, met & less & third);
-    let equal = wind(120, 1, b"P.K bya", area);
-    let below = wind(119, 1, b"P.B bna", area);
+    let equal = wind(120, 1, b"P.K ya", area);
+    let below = wind(119, 1, b"P.B na", area);
     tell(11, equal & below);
 }
 
 // Examples 12 to 14.
 fn last_examples(area: &mut [u64]) {
-    let taken = until(0, 9, b"0;1,0 9;0,1", b"PP.K bnya", area);
+    let taken = until(0, 9, b"0;1,0 9;0,1", b"PP.K nya", area);
     let refused = until(0, 10, b"0;1,0 9;0,1", b"4", area);
     tell(12, taken & refused);
-    tell(13, until(9, 255, b"0;1,0 9;0,1", b"PP.K bnya", area));
-    tell(14, a(b"3;1,0 2;0,1 3;0,1", b"P9P.K bnnya", area));
+    tell(13, until(9, 255, b"0;1,0 9;0,1", b"PP.K nya", area));
+    tell(14, a(b"3;1,0 2;0,1 3;0,1", b"P9P.K nnya", area));
 }
 
 // The fourteen examples, in order.

@@ -16,15 +16,24 @@ const CLOSED_KEPT: usize = 2;
 
 const CLOSED_BROKEN: usize = 3;
 
-pub(crate) const HORIZON: usize = 4;
+const HORIZON: usize = 4;
 
-pub(crate) const NO_HORIZON: usize = 5;
+const NO_HORIZON: usize = 5;
 
 // Counts one more at a place.
 pub(crate) fn count(tally: &mut [u64], place: usize) {
     if place < tally.len() {
         let new = std::num::wrapping_add_u64(tally[place], 1);
         tally[place] = new;
+    }
+}
+
+// Counts a horizon, or that there is none.
+pub(crate) fn count_horizon(tally: &mut [u64], none: bool) {
+    if none {
+        count(tally, NO_HORIZON);
+    } else {
+        count(tally, HORIZON);
     }
 }
 

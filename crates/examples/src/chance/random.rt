@@ -1,8 +1,8 @@
 // Rules, signal lists and logs by chance: mostly right, now and then damaged.
-use crate::bytes::put;
 use crate::chance::dice::roll;
 use crate::chance::dice::roll_byte;
 use crate::chance::dice::seldom;
+use crate::judge::bytes::put;
 use crate::made::put_in;
 use crate::made::put_interval;
 use crate::made::put_rule;
