@@ -14,13 +14,13 @@ use crate::made::put_signal;
 use crate::made::put_wind;
 use ground::bytes::byte;
 
-// Whether two texts are the same.
-pub(crate) fn same(a: &[u8], b: &[u8]) -> bool {
-    if a.len() != b.len() {
+// Whether a text, with zeros behind it, is what was said.
+fn same(said: &[u8], text: &[u8]) -> bool {
+    if said.len() < text.len() {
         return false;
     }
-    for place in 0..a.len() {
-        if byte(a, place) != byte(b, place) {
+    for place in 0..said.len() {
+        if byte(said, place) != byte(text, place) {
             return false;
         }
     }
@@ -29,13 +29,12 @@ pub(crate) fn same(a: &[u8], b: &[u8]) -> bool {
 
 // Runs one log and answers whether the watcher said what is wanted; else the difference is written.
 fn right(rule: &[u8], signals: &[u8], log: &[u8], wanted: &[u8], area: &mut [u64]) -> bool {
-    let mut letters = [0u8; 16];
-    let count = run(rule, signals, log, &mut letters, area);
-    let said = first(&letters, count);
-    if same(said, wanted) {
+    let mut said = [0u8; 16];
+    run(rule, signals, log, &mut said, area);
+    if same(&said, wanted) {
         return true;
     }
-    difference(rule, signals, log, said, wanted);
+    difference(rule, signals, log, &said, wanted);
     false
 }
 

@@ -5,10 +5,8 @@ use crate::answers::print::number;
 use crate::answers::print::text;
 use ground::bytes::byte;
 
-// Places of the tally. A word's, an ask's and a refusal's is its letter.
+// Places of the tally. A word's, an ask's and a refusal's is its letter; 0 is no letter.
 pub(crate) const PLACES: usize = 128;
-
-pub(crate) const DIFFERENCES: usize = 0;
 
 const DECIDED: usize = 1;
 
@@ -19,6 +17,8 @@ const CLOSED_BROKEN: usize = 3;
 const HORIZON: usize = 4;
 
 const NO_HORIZON: usize = 5;
+
+pub(crate) const DIFFERENCES: usize = 6;
 
 // Counts one more at a place.
 pub(crate) fn count(tally: &mut [u64], place: usize) {
@@ -58,7 +58,7 @@ fn place_behind(before: u8, letter: u8) -> usize {
     }
 }
 
-// Counts the letters that were said.
+// Counts the letters that were said, and the zeros behind them.
 pub(crate) fn count_letters(tally: &mut [u64], said: &[u8]) {
     let mut before = 0;
     for place in 0..said.len() {

@@ -42,8 +42,8 @@ fn close(watcher: Watcher, place: usize, asking: usize, said: &mut [u8], area: &
     put(said, asking, asked(next, area));
 }
 
-// Feeds the log to a watcher that started, closes it, and answers how many letters it wrote.
-fn whole(start: Watcher, log: &[u8], said: &mut [u8], area: &mut [u64]) -> usize {
+// Feeds the log to a watcher that started, closes it, and writes the letters.
+fn whole(start: Watcher, log: &[u8], said: &mut [u8], area: &mut [u64]) {
     let mut watcher = start;
     let count = pieces(log, 16, 12);
     for n in 0..count {
@@ -53,7 +53,6 @@ fn whole(start: Watcher, log: &[u8], said: &mut [u8], area: &mut [u64]) -> usize
     put(said, count, b'.');
     put(said, count + 2, b' ');
     close(watcher, count + 1, 2 * count + 3, said, area);
-    2 * count + 4
 }
 
 // The watcher that starts with the lists; one of zeros where they are refused.
@@ -63,20 +62,11 @@ fn started(rule: &[u8], signals: &[u8], area: &mut [u64]) -> Watcher {
     watcher
 }
 
-// Starts, feeds and closes a watcher where the start would not be refused; answers how many letters it wrote.
-pub(crate) fn run(
-    rule: &[u8],
-    signals: &[u8],
-    log: &[u8],
-    said: &mut [u8],
-    area: &mut [u64],
-) -> usize {
+// Starts, feeds and closes a watcher where the start would not be refused; writes the letters.
+pub(crate) fn run(rule: &[u8], signals: &[u8], log: &[u8], said: &mut [u8], area: &mut [u64]) {
     let found = Watcher::start_would_refuse(rule, signals, area);
     match found {
-        Found::Refused(refusal) => {
-            put(said, 0, number_letter(refusal.number()));
-            1
-        }
+        Found::Refused(refusal) => put(said, 0, number_letter(refusal.number())),
         Found::Fine => whole(started(rule, signals, area), log, said, area),
     }
 }

@@ -51,13 +51,11 @@ fn settle(rule: &[u8], signals: &[u8], log: &[u8], said: &[u8], mine: &[u8], tal
 
 // Compares one case.
 fn compare(rule: &[u8], signals: &[u8], log: &[u8], area: &mut [u64], tally: &mut [u64]) {
-    let mut letters = [0u8; 32];
-    let mut hoped = [0u8; 32];
-    let letters_count = run(rule, signals, log, &mut letters, area);
-    let hoped_count = wanted(rule, signals, log, &mut hoped);
-    let said = first(&letters, letters_count);
-    let mine = first(&hoped, hoped_count);
-    settle(rule, signals, log, said, mine, tally);
+    let mut said = [0u8; 32];
+    let mut mine = [0u8; 32];
+    run(rule, signals, log, &mut said, area);
+    wanted(rule, signals, log, &mut mine);
+    settle(rule, signals, log, &said, &mine, tally);
     compare_horizon(rule, signals, area, tally);
 }
 

@@ -65,12 +65,6 @@ add-close-2 c = search needs
 close-requires : tie.Need-close-requires Inv-loop μ-loop
 close-requires c κs = search needs
 
-mul-result : tie.Need-mul-result Inv-loop μ-loop
-mul-result c = search needs
-
-add-result : tie.Need-add-result Inv-loop μ-loop
-add-result c = search needs
-
 same-length : tie.Need-same-length Inv-loop μ-loop
 same-length c = search needs
 
@@ -103,8 +97,6 @@ whole-spec =
     mul-close
     add-close-2
     close-requires
-    mul-result
-    add-result
     same-length
     same-length-2
     returns)
