@@ -2,9 +2,9 @@
 use crate::answers::print::number;
 use crate::answers::print::text;
 use crate::answers::watch::run;
-use crate::bytes::part;
-use crate::bytes::put;
 use crate::given::rule_a;
+use crate::judge::bytes::part;
+use crate::judge::bytes::put;
 use crate::made::put_signal;
 use crate::made::put_wind;
 use ground::bytes::byte;
@@ -47,16 +47,21 @@ fn two_records() -> [u8; 32] {
     log
 }
 
-// Rule A on these signals and records: a line for each record, and one for closing.
+// Writes the lines of two records and of closing.
+fn lines(log: &[u8], letters: &[u8]) {
+    line(log, 0, letters, 0);
+    line(log, 16, letters, 1);
+    text(b"end ");
+    word(letters, 3);
+    text(b"\n");
+}
+
+// Rule A on these signals and records.
 pub(crate) fn listing(area: &mut [u64]) {
     let rule = rule_a(0, 2);
     let signals = wind_and_lee();
     let log = two_records();
     let mut letters = [0u8; 16];
     run(&rule, &signals, &log, &mut letters, area);
-    line(&log, 0, &letters, 0);
-    line(&log, 16, &letters, 1);
-    text(b"end ");
-    word(&letters, 3);
-    text(b"\n");
+    lines(&log, &letters);
 }

@@ -1,7 +1,6 @@
 // Runs the watcher on document 01's examples and its listing, and on cases by chance beside a second evaluator, and
 // counts the answers.
 mod answers;
-mod bytes;
 mod cases;
 mod chance;
 mod given;
