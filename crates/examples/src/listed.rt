@@ -86,44 +86,44 @@ fn wind(strength: u64, unit: u8, wanted: &[u8], area: &mut [u64]) -> bool {
 
 // Examples 1 to 4.
 fn until_examples(area: &mut [u64]) {
-    a(1, b"0;1,0 1;1,0 2;0,1", b"PPP.K nnya", area);
-    a(2, b"0;1,0 3;0,1", b"PB.B nna", area);
-    a(3, b"0;1,0 2;0,1", b"PP.K nya", area);
-    a(4, b"0;1,0", b"P.B na", area);
+    a(1, b"0;1,0 1;1,0 2;0,1", b"PPP.K bnnya", area);
+    a(2, b"0;1,0 3;0,1", b"PB.B bnna", area);
+    a(3, b"0;1,0 2;0,1", b"PP.K bnya", area);
+    a(4, b"0;1,0", b"P.B bna", area);
 }
 
 // Examples 5 to 8.
 fn minute_and_since_examples(area: &mut [u64]) {
-    a(5, b"5;1,0 5;0,1", b"PP.K nya", area);
-    a(6, b"0;0,0 0;0,0", b"PB.B nna", area);
-    b(7, b"0;0,1 1;1,0", b"PP.K nya", area);
-    b(8, b"0;0,1 2;1,0", b"PP.B nna", area);
+    a(5, b"5;1,0 5;0,1", b"PP.K bnya", area);
+    a(6, b"0;0,0 0;0,0", b"PB.B bnna", area);
+    b(7, b"0;0,1 1;1,0", b"PP.K bnya", area);
+    b(8, b"0;0,1 2;1,0", b"PP.B bnna", area);
 }
 
 // Example 9.
 fn nothing_example(area: &mut [u64]) {
     let rule = rule_nothing();
-    tell(9, vents(&rule, b"0;0,0", b"B.B na", area));
+    tell(9, vents(&rule, b"0;0,0", b"B.B bna", area));
 }
 
 // Examples 10 and 11.
 fn wind_examples(area: &mut [u64]) {
-    let met = wind(432, 0, b"P.K ya", area);
-    let less = wind(431, 0, b"P.B na", area);
-    let third = wind(144, 0, b"P.B na", area);
+    let met = wind(432, 0, b"P.K bya", area);
+    let less = wind(431, 0, b"P.B bna", area);
+    let third = wind(144, 0, b"P.B bna", area);
     tell(10, met & less & third);
-    let equal = wind(120, 1, b"P.K ya", area);
-    let below = wind(119, 1, b"P.B na", area);
+    let equal = wind(120, 1, b"P.K bya", area);
+    let below = wind(119, 1, b"P.B bna", area);
     tell(11, equal & below);
 }
 
 // Examples 12 to 14.
 fn last_examples(area: &mut [u64]) {
-    let taken = until(0, 9, b"0;1,0 9;0,1", b"PP.K nya", area);
+    let taken = until(0, 9, b"0;1,0 9;0,1", b"PP.K bnya", area);
     let refused = until(0, 10, b"0;1,0 9;0,1", b"4", area);
     tell(12, taken & refused);
-    tell(13, until(9, 255, b"0;1,0 9;0,1", b"PP.K nya", area));
-    a(14, b"3;1,0 2;0,1 3;0,1", b"P9P.K nnya", area);
+    tell(13, until(9, 255, b"0;1,0 9;0,1", b"PP.K bnya", area));
+    a(14, b"3;1,0 2;0,1 3;0,1", b"P9P.K bnnya", area);
 }
 
 // The fourteen examples, in order.

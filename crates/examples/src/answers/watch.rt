@@ -1,5 +1,6 @@
 // One log through the watcher, as letters: the digit of a refused start alone, or a letter for each 16 bytes of the
-// log, a point, the letter of closing, a blank, and the letters of asking after each 16 bytes and after closing.
+// log, a point, the letter of closing, a blank, and the letters of asking: after the start, after each 16 bytes, and
+// after closing.
 use crate::answers::letters::answer_letter;
 use crate::answers::letters::end_letter;
 use crate::answers::letters::number_letter;
@@ -46,13 +47,14 @@ fn close(watcher: Watcher, place: usize, asking: usize, said: &mut [u8], area: &
 fn whole(start: Watcher, log: &[u8], said: &mut [u8], area: &mut [u64]) {
     let mut watcher = start;
     let count = pieces(log, 16, 12);
+    put(said, count + 3, asked(watcher, area));
     for n in 0..count {
-        let next = fed(watcher, part(log, 16 * n, 16), n, count + 3 + n, said, area);
+        let next = fed(watcher, part(log, 16 * n, 16), n, count + 4 + n, said, area);
         watcher = next;
     }
     put(said, count, b'.');
     put(said, count + 2, b' ');
-    close(watcher, count + 1, 2 * count + 3, said, area);
+    close(watcher, count + 1, 2 * count + 4, said, area);
 }
 
 // The watcher that starts with the lists; one of zeros where they are refused.

@@ -17,6 +17,15 @@ abbrev μ-loop : tie.MeasureT-loop
 pieces-requires : tie.Need-pieces-requires Inv-loop μ-loop
 pieces-requires c κs = search needs
 
+add-put : tie.Need-add-put Inv-loop μ-loop
+add-put c = search needs
+
+asked-requires : tie.Need-asked-requires Inv-loop μ-loop
+asked-requires c κs = search needs
+
+put-requires : tie.Need-put-requires Inv-loop μ-loop
+put-requires c κs = search needs
+
 loop-holds : tie.Need-loop-holds Inv-loop μ-loop
 loop-holds c = search needs
 
@@ -44,14 +53,14 @@ loop-less c = search needs
 loop-again : tie.Need-loop-again Inv-loop μ-loop
 loop-again c = search needs
 
-put-requires : tie.Need-put-requires Inv-loop μ-loop
-put-requires c κs = search needs
-
-add-put : tie.Need-add-put Inv-loop μ-loop
-add-put c = search needs
-
 put-requires-2 : tie.Need-put-requires-2 Inv-loop μ-loop
 put-requires-2 c κs = search needs
+
+add-put-2 : tie.Need-add-put-2 Inv-loop μ-loop
+add-put-2 c = search needs
+
+put-requires-3 : tie.Need-put-requires-3 Inv-loop μ-loop
+put-requires-3 c κs = search needs
 
 add-close : tie.Need-add-close Inv-loop μ-loop
 add-close c = search needs
@@ -81,6 +90,9 @@ whole-spec =
     Inv-loop
     μ-loop
     pieces-requires
+    add-put
+    asked-requires
+    put-requires
     loop-holds
     mul-part
     part-requires
@@ -90,9 +102,9 @@ whole-spec =
     add-n
     loop-less
     loop-again
-    put-requires
-    add-put
     put-requires-2
+    add-put-2
+    put-requires-3
     add-close
     mul-close
     add-close-2
