@@ -1,5 +1,5 @@
--- Watchers that must be caught (document 01, "What each statement has to settle"; the last but one by R-8): each by what
--- it does at every start that a machine can make, or in every run.
+-- Watchers that must be caught (document 01, "What each statement has to settle"; one more by R-8): each by what it does
+-- at every start that a machine can make, or in every run.
 use mathlib.Core.Path.{_≡_}
 use mathlib.Core.Bool.{Bool}
 use mathlib.Core.List.{List, [], _∷_, _++_}
