@@ -14,7 +14,7 @@ pub enum Word {
     Pending,
 }
 
-/// The value that the rule has at the first record of a closed log.
+/// The value that the rule has at the first record of a log that ends: one that is closed, or asked how it would end.
 #[derive(Clone, Copy, Debug, PartialEq, Eq, Hash)]
 pub enum Verdict {
     /// The rule holds.

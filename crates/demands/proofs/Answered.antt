@@ -23,6 +23,7 @@ use Rattle.watcher.specs.Lists.{listsRefusal}
 use Rattle.watcher.specs.State.{isRefused}
 use Rattle.watcher.specs.Calls.{startRefusal, startOf, startWith, waitOf}
 use Rattle.watcher.proofs.Decoded.{Accepted}
+use Rattle.watcher.proofs.Numbers.{verdict-says}
 use Rattle.demands.specs.Watching.{defined, feeding, told, ending}
 use Rattle.demands.specs.Logs.{accepts, logWith, going, further, furtherBy, courseOf, logIn}
 use Rattle.demands.specs.Rewritten.{readRule, parametersIn, heldAfter, heldIn, wordAfter}
@@ -98,11 +99,6 @@ starts-fine : (rule signals ws : List ℕ) → not (isRefused (listsRefusal rule
     → startRefusal rule signals ws ≡ Fine
 starts-fine rule signals ws e l = start-accepts rule signals ws (fine-one (listsRefusal rule signals) e) l
 
-valued : (b : Bool) → verdictValue (verdictFor b) ≡ b
-unfolding verdictValue verdictFor
-valued true = refl
-valued false = refl
-
 module _ (rule signals : List ℕ) where
   -- the words after each record of a log that goes on
   abbrev wordsAfter : List Entry → List (List ℕ) → List Word
@@ -169,7 +165,7 @@ module _ (rule signals : List ℕ) where
     ends-with [] r closing v h = let z : ⊥ = omega arith in absurd z
     ends-with (e ∷ es) r closing v h =
         subst (λ x. EndsWith x closing) (sym (close-some rule signals fine e es r .0))
-        (ap wordOf (valued (valueOf (e ∷ es) (readRule rule)))
+        (ap wordOf (verdict-says (valueOf (e ∷ es) (readRule rule)))
         ∙ word-one (wordOf (valueOf (e ∷ es) (readRule rule))) closing v)
 
   -- what passes runs so

@@ -1,16 +1,19 @@
--- No functions of which the demands hold are one of the bad watchers: examples 2 and 4 show it.
+-- No functions of which the demands hold, and for asking what is promised of it, are one of the bad watchers: examples
+-- 2, 3 and 4 show it.
 -- Assumes nothing.
 use mathlib.Core.Path.{_≡_, refl, sym, ap, _∙_, subst}
-use mathlib.Core.Bool.{Bool, true, false}
+use mathlib.Core.Bool.{Bool, true, false, not}
 use mathlib.Core.List.{List, [], _∷_}
 use Prim.Native.Nat.{ℕ, _^_, _<_}
 use native.Mathlib.Omega.{arith}
 use lib.ListN.{getD}
-use Rattle.meaning.specs.Words.{wordOf}
+use Rattle.meaning.specs.Meaning.{valueOf}
+use Rattle.meaning.specs.Words.{kept, pending, broken, wordOf}
 use Rattle.watcher.specs.declared.state.Word.the-variants as word
 use Rattle.watcher.specs.declared.state.Found.{Found}
 use Rattle.watcher.specs.declared.state.Found.the-variants.{Fine}
 use Rattle.watcher.specs.declared.state.Started.{Started}
+use Rattle.watcher.specs.declared.state.End.{End}
 use Rattle.watcher.specs.declared.state.End.the-variants.{Closed}
 use Rattle.watcher.specs.Rules.{recordsOf}
 use Rattle.watcher.specs.Records.{entryOf}
@@ -18,10 +21,10 @@ use Rattle.watcher.specs.Numbers.{saying, verdictFor, Says, foundAt, decided}
 use Rattle.watcher.specs.Calls.{startWith}
 use Rattle.watcher.specs.Runs.{Held}
 use Rattle.watcher.proofs.Reports.{says-fine}
-use Rattle.demands.specs.Watching.{Functions, Call, feeding, closing, told, handed, handedOn, reached}
+use Rattle.demands.specs.Watching.{Functions, Call, feeding, closing, told, asked, handed, handedOn, reached}
 use Rattle.demands.specs.Watching.{MachineCall, MachineCalls, Begun}
 use Rattle.demands.specs.Logs.{logWith, furtherBy, courseOf}
-use Rattle.demands.specs.Rewritten.{heldIn}
+use Rattle.demands.specs.Rewritten.{readRule, heldIn}
 use Rattle.demands.specs.Demands.{Demands, Decides}
 use Rattle.demands.specs.Asking.{Asking}
 use Rattle.demands.specs.Tables.{Carries}
@@ -31,8 +34,9 @@ use Rattle.demands.specs.BadWatchers.{FeedsUntouched, ClosesUntouched, N
 use Rattle.demands.specs.BadWatchers.{AsksByWord, OnlyNods}
 use Rattle.demands.proofs.ExampleTwo.{area, area-first, rule, one, two, rule-bytes, signal-bytes, area-words}
 use Rattle.demands.proofs.ExampleTwo.{one-bytes, two-bytes, none-holds, logOne, takes-one, word-one, course-one}
-use Rattle.demands.proofs.ExampleTwo.{value-one, takes-two, word-two}
-use Rattle.demands.proofs.ExampleTwo.{course-two, course-closed, tells, tells-one, tells-two, tells-closed}
+use Rattle.demands.proofs.ExampleTwo.{three, three-bytes, value-one, takes-second, word-second, course-second}
+use Rattle.demands.proofs.ExampleTwo.{value-second, second-run, third-run, course-closed, tells, tells-one}
+use Rattle.demands.proofs.ExampleTwo.{tells-two, tells-closed}
 
 -- what carries a number is no acceptance
 carries-not : (f : Found) (n : ℕ) → f ≡ Fine → Carries f n → ⊥
@@ -88,9 +92,11 @@ module _ (f : Functions) (d : Demands f) where
   held-is = d .second .state rule vents (area 0) begun
 
   says : Says (told f (held calls) two) word.Broken
+  unfolding saying
   says =
-      subst (Says (told f (held calls) two)) word-two
-      (d .second .word rule vents (area 0) begun calls called logOne course-one two two-bytes takes-two)
+      subst (Says (told f (held calls) two)) (word-second two broken broken (second-run 0))
+      (d .second .word rule vents (area 0) begun calls called logOne course-one two two-bytes
+      (takes-second two broken broken (second-run 0)))
 
   decides : Decides f rule vents (area 0) calls two false
   unfolding decided
@@ -124,21 +130,36 @@ module _ (f : Functions) (d : Demands f) where
   unfolding verdictFor MachineCalls
   ends-broken never =
       never rule vents (area 0) begun (feeding one ∷ feeding two ∷ []) called-two
-      (d .third .agrees rule vents (area 0) calls two false decides [] tt (logWith vents logOne two) course-two)
+      (d .third .agrees rule vents (area 0) calls two false decides [] tt (logWith vents logOne two)
+      (course-second two broken broken (second-run 0)))
 
-  -- one that takes the word of the remainder for the value: example 4 is pending, and asking says broken
-  says-pending : Says (told f (held []) one) word.Pending
-  unfolding MachineCalls furtherBy logWith
-  says-pending =
-      subst (Says (told f (held []) one)) word-one
-      (d .second .word rule vents (area 0) begun [] tt [] refl one one-bytes takes-one)
+  -- one that asks by the word alone: example 4 is pending and broken if it ends, example 3 pending and kept
+  asked-not : (a : End) (v b : Bool) → wordOf v ≡ wordOf (not b) → a ≡ Closed (verdictFor v) → a ≡ Closed (verdictFor b)
+      → ⊥
+  unfolding wordOf verdictFor
+  asked-not a true true w e g = let z : _≡_ {A = ℕ} 0 1 = cc in omega arith
+  asked-not a true false w e g = let z : _≡_ {A = ℕ} 0 1 = cc in omega arith
+  asked-not a false true w e g = let z : _≡_ {A = ℕ} 0 1 = cc in omega arith
+  asked-not a false false w e g = let z : _≡_ {A = ℕ} 0 1 = cc in omega arith
 
-  pub not-by-word : Asking f → AsksByWord f → ⊥
-  unfolding MachineCalls verdictFor
-  not-by-word a never =
-      never rule vents (area 0) begun [] tt one one-bytes says-pending
-      (a .reports rule vents (area 0) begun calls called (entryOf vents (recordsOf vents) one) [] course-one
-      ∙ ap (λ b. Closed (verdictFor b)) value-one)
+  pub not-by-word : Asking f → (b : Bool) → AsksByWord f b → ⊥
+  unfolding MachineCalls MachineCall furtherBy logWith saying wordOf
+  not-by-word a true all =
+      asked-not (asked f (held calls)) (valueOf logOne (readRule rule)) true value-one
+      (a .reports rule vents (area 0) begun calls called (entryOf vents (recordsOf vents) one) [] course-one)
+      (all rule vents (area 0) begun [] tt one one-bytes
+      (subst (Says (told f (held []) one)) word-one
+      (d .second .word rule vents (area 0) begun [] tt [] refl one one-bytes takes-one)))
+  not-by-word a false all =
+      asked-not (asked f (held (feeding one ∷ feeding three ∷ [])))
+      (valueOf (logWith vents logOne three) (readRule rule)) false (value-second three pending kept third-run)
+      (a .reports rule vents (area 0) begun (feeding one ∷ feeding three ∷ []) (one-bytes, (three-bytes, tt))
+      (entryOf vents (recordsOf vents) one) (entryOf vents (recordsOf vents) three ∷ [])
+      (course-second three pending kept third-run))
+      (all rule vents (area 0) begun calls called three three-bytes
+      (subst (Says (told f (held calls) three)) (word-second three pending kept third-run)
+      (d .second .word rule vents (area 0) begun calls called logOne course-one three three-bytes
+      (takes-second three pending kept third-run))))
 
   -- one that never touches the area: two areas start alike
   pub touches-start : StartsUntouched f → ⊥
@@ -167,7 +188,8 @@ module _ (f : Functions) (d : Demands f) where
       apart
       (sym
       (ap (λ (h : Held). tells (h .area))
-      (held-is (feeding one ∷ feeding two ∷ []) called-two ∙ ap (heldIn rule vents) course-two)
+      (held-is (feeding one ∷ feeding two ∷ []) called-two
+      ∙ ap (heldIn rule vents) (course-second two broken broken (second-run 0)))
       ∙ tells-two)
       ∙ ap tells same ∙ tells-before)
 

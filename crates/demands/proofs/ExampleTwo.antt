@@ -1,8 +1,8 @@
--- Example 2 as a run: its records are accepted, and what the rewriting gives for them. Its first record alone is
--- example 4.
+-- Examples 2, 3 and 4 as runs: their records are accepted, and what the rewriting gives for them. The first record is
+-- the same in all, and alone it is example 4.
 -- Assumes nothing.
 use mathlib.Core.Path.{_≡_, refl, sym, ap, _∙_, subst}
-use mathlib.Core.Bool.{Bool, true, false, and-eq-true-iff}
+use mathlib.Core.Bool.{Bool, true, and-eq-true-iff}
 use mathlib.Core.Logic.{⊎-elim}
 use mathlib.Core.List.{List, [], _∷_}
 use Prim.Native.Nat.{ℕ, zero, suc, _^_, _≤_, _<_}
@@ -14,7 +14,7 @@ use Rattle.ground.proofs.Folds.{less-or-not}
 use Rattle.forms.specs.Form.{constant}
 use Rattle.meaning.specs.Rule.{Entry}
 use Rattle.meaning.specs.Meaning.{valueOf}
-use Rattle.meaning.specs.Words.{Known, Word, pending, broken, after, word, wordOf}
+use Rattle.meaning.specs.Words.{Known, Word, kept, pending, broken, after, word, wordOf}
 use Rattle.meaning.proofs.Theorems.{word-constant}
 use Rattle.rewriting.specs.Known.{wordsFor, formAt}
 use Rattle.rewriting.proofs.Placed.{read-remainder}
@@ -23,23 +23,23 @@ use Rattle.watcher.specs.declared.state.Word.the-variants as told
 use Rattle.watcher.specs.Limits.{mostParameters, areaWords}
 use Rattle.watcher.specs.Rules.{recordsOf}
 use Rattle.watcher.specs.Records.{entryOf}
-use Rattle.watcher.specs.declared.state.End.the-variants.{Closed}
-use Rattle.watcher.specs.Numbers.{saying, Says, verdictFor, verdictValue}
+use Rattle.watcher.specs.Numbers.{saying, Says}
 use Rattle.watcher.specs.declared.state.Found.the-variants.{Fine}
 use Rattle.watcher.specs.Calls.{startRefusal}
 use Rattle.watcher.specs.Machine.{MachineBytes, MachineWords}
 use Rattle.watcher.proofs.Decoded.{Accepted}
-use Rattle.demands.specs.Watching.{defined, feeding, closing, told, ending, handedOn, reached}
+use Rattle.watcher.proofs.Numbers.{verdict-says}
+use Rattle.demands.specs.Watching.{defined, Call, feeding, closing, told, ending, handedOn, reached}
 use Rattle.demands.specs.Logs.{accepts, logWith, going, over, further, furtherBy, courseOf, logIn}
 use Rattle.demands.specs.Rewritten.{readRule, parametersIn, heldKnown, heldAfter, heldClosed, heldIn, wordAfter}
 use Rattle.demands.specs.Tables.{startTable, NoneHolds}
 use Rattle.demands.specs.Examples.{table, Answers, ruleA, vents, at, EndsWith, Run, allIn}
 use Rattle.demands.proofs.OwnStates.{start-accepted, few-parameters}
-use Rattle.demands.proofs.Logs.{right-none, right-taken, further-parts}
+use Rattle.demands.proofs.Logs.{Right, right-none, right-taken, further-parts}
 use Rattle.demands.proofs.Courses.{close-some, run-state}
 use Rattle.demands.proofs.Following.{start-found}
 use Rattle.demands.proofs.Demanded.{start-tabled}
-use Rattle.demands.proofs.Deciding.{Told, word-told, going-with}
+use Rattle.demands.proofs.Deciding.{Told, word-told, going-with, course-right}
 use Rattle.demands.proofs.Answered.{table-answered}
 
 -- bytes that are all small
@@ -73,7 +73,7 @@ area-small x h i =
     (List·getD-eq-default (area x) 0 (let k : length (area x) ≤ i = omega (arith, area-long x) in k)))
     (omega arith)) (less-or-not i areaWords)
 
--- rule A and its first two records, as a machine has them
+-- rule A and the records, as a machine has them
 abbrev pub rule : List ℕ
 rule = ruleA 2
 
@@ -82,6 +82,9 @@ one = at 0 1 0
 
 abbrev pub two : List ℕ
 two = at 3 0 1
+
+abbrev pub three : List ℕ
+three = at 2 0 1
 
 pub rule-bytes : MachineBytes rule
 rule-bytes = bytes-of rule refl (omega arith)
@@ -99,8 +102,11 @@ one-bytes = bytes-of one refl (omega arith)
 pub two-bytes : MachineBytes two
 two-bytes = bytes-of two refl (omega arith)
 
+pub three-bytes : MachineBytes three
+three-bytes = bytes-of three refl (omega arith)
+
 -- the run of example 2, by the definitions
-second-run : (x : ℕ) → Run rule vents (one ∷ two ∷ []) (pending ∷ broken ∷ []) broken (area x)
+pub second-run : (x : ℕ) → Run rule vents (one ∷ two ∷ []) (pending ∷ broken ∷ []) broken (area x)
 unfolding table Answers
 second-run x = table-answered .1 .0 (area x) (area-long x)
 
@@ -141,54 +147,66 @@ pub course-one : courseOf vents (feeding one ∷ []) ≡ going logOne
 unfolding furtherBy logWith
 course-one = going-with vents [] [] one [] refl takes-one
 
+-- what a run of calls that are accepted ends with is the value of their records
+ends-value : (calls : List Call) (e : Entry) (es : List Entry) → courseOf vents calls ≡ going (e ∷ es)
+    → (last : Word) → EndsWith (ending defined (reached defined rule vents (area 0) calls)) last
+    → wordOf (valueOf (e ∷ es) (readRule rule)) ≡ last
+unfolding heldIn logIn EndsWith
+ends-value calls e es c last ends =
+    ap wordOf (sym (verdict-says (valueOf (e ∷ es) (readRule rule))))
+    ∙ subst (λ a. EndsWith a last)
+    (ap (ending defined) (run-state rule vents (area 0) start calls ∙ ap (heldIn rule vents) c)
+    ∙ close-some rule vents fine e es
+    (subst (λ x. Right vents (logIn x)) c (course-right rule vents fine calls)) .0) ends
+
 -- were the first record the last, the rule would be broken: example 4
-fourth-run : Run rule vents (one ∷ []) (pending ∷ []) broken (area 0)
+pub value-one : wordOf (valueOf logOne (readRule rule)) ≡ broken
 unfolding table Answers
-fourth-run = table-answered .1 .1 .1 .0 (area 0) (area-long 0)
-
-broken-false : (b : Bool) → EndsWith (Closed (verdictFor b)) broken → b ≡ false
-unfolding EndsWith verdictFor verdictValue wordOf
-broken-false true e = let z : _≡_ {A = ℕ} 0 1 = cc in let no : ⊥ = omega arith in absurd no
-broken-false false e = refl
-
-pub value-one : valueOf logOne (readRule rule) ≡ false
-unfolding heldIn logWith
 value-one =
-    broken-false (valueOf logOne (readRule rule))
-    (subst (λ a. EndsWith a broken)
-    (ap (ending defined)
-    (run-state rule vents (area 0) start (feeding one ∷ []) ∙ ap (heldIn rule vents) course-one)
-    ∙ close-some rule vents fine (entryOf vents (recordsOf vents) one) []
-    (right-taken vents [] one (right-none vents) takes-one) .0) (fourth-run .ends))
+    ends-value (feeding one ∷ []) (entryOf vents (recordsOf vents) one) [] course-one broken
+    (table-answered .1 .1 .1 .0 (area 0) (area-long 0) .ends)
 
--- the second record is accepted, and its word is broken
-says-two : Says (told defined (heldAfter rule vents logOne) two) told.Broken
-unfolding heldIn reached handedOn saying
-says-two =
-    subst (λ h. Says (told defined h two) told.Broken)
-    (run-state rule vents (area 0) start (feeding one ∷ []) ∙ ap (heldIn rule vents) course-one)
-    (second-run 0 .told .1 .0)
+-- a second record that gets a word: it is accepted, and what closing says behind it is the value
+module _ (second : List ℕ) (w last : Word)
+    (run : Run rule vents (one ∷ second ∷ []) (pending ∷ w ∷ []) last (area 0)) where
+  says-second : Says (told defined (heldAfter rule vents logOne) second) (saying w)
+  unfolding heldIn reached handedOn
+  says-second =
+      subst (λ h. Says (told defined h second) (saying w))
+      (run-state rule vents (area 0) start (feeding one ∷ []) ∙ ap (heldIn rule vents) course-one)
+      (run .told .1 .0)
 
-told-two : Told rule vents (going logOne) two told.Broken
-unfolding heldIn logIn logWith
-told-two =
-    word-told rule vents fine (going logOne) (right-taken vents [] one (right-none vents) takes-one) two told.Broken
-    says-two
+  told-second : Told rule vents (going logOne) second (saying w)
+  unfolding heldIn logIn logWith
+  told-second =
+      word-told rule vents fine (going logOne) (right-taken vents [] one (right-none vents) takes-one) second
+      (saying w) says-second
 
-log-two : going logOne ≡ going (told-two .log) → told-two .log ≡ logOne
-log-two e = cc
+  log-second : going logOne ≡ going (told-second .log) → told-second .log ≡ logOne
+  log-second e = cc
 
-pub takes-two : accepts logOne two ≡ true
-takes-two = subst (λ log. accepts log two ≡ true) (log-two (told-two .goes)) (told-two .takes)
+  pub takes-second : accepts logOne second ≡ true
+  takes-second = subst (λ log. accepts log second ≡ true) (log-second (told-second .goes)) (told-second .takes)
 
-pub word-two : saying (wordAfter rule (logWith vents logOne two)) ≡ told.Broken
-word-two =
-    subst (λ log. saying (wordAfter rule (logWith vents log two)) ≡ told.Broken) (log-two (told-two .goes))
-    (told-two .word)
+  pub word-second : saying (wordAfter rule (logWith vents logOne second)) ≡ saying w
+  word-second =
+      subst (λ log. saying (wordAfter rule (logWith vents log second)) ≡ saying w) (log-second (told-second .goes))
+      (told-second .word)
 
-pub course-two : courseOf vents (feeding one ∷ feeding two ∷ []) ≡ going (logWith vents logOne two)
-unfolding furtherBy
-course-two = going-with vents (feeding one ∷ []) logOne two [] course-one takes-two
+  pub course-second : courseOf vents (feeding one ∷ feeding second ∷ []) ≡ going (logWith vents logOne second)
+  unfolding furtherBy
+  course-second = going-with vents (feeding one ∷ []) logOne second [] course-one takes-second
+
+  pub value-second : wordOf (valueOf (logWith vents logOne second) (readRule rule)) ≡ last
+  unfolding logWith
+  value-second =
+      ends-value (feeding one ∷ feeding second ∷ []) (entryOf vents (recordsOf vents) one)
+      (entryOf vents (recordsOf vents) second ∷ []) course-second last (run .ends)
+
+-- the run of example 3: a second record that comes in time
+pub third-run : Run rule vents (one ∷ three ∷ []) (pending ∷ pending ∷ []) kept (area 0)
+unfolding table Answers
+third-run = table-answered .1 .1 .0 (area 0) (area-long 0)
 
 -- closing after the first record
 pub course-closed :
@@ -214,9 +232,10 @@ pub tells-one : tells (heldAfter rule vents logOne .area) ≡ told.Pending
 tells-one = tells-after (entryOf vents (recordsOf vents) one) [] ∙ word-one
 
 pub tells-two : tells (heldAfter rule vents (logWith vents logOne two) .area) ≡ told.Broken
-unfolding logWith
+unfolding logWith saying
 tells-two =
-    tells-after (entryOf vents (recordsOf vents) one) (entryOf vents (recordsOf vents) two ∷ []) ∙ word-two
+    tells-after (entryOf vents (recordsOf vents) one) (entryOf vents (recordsOf vents) two ∷ [])
+    ∙ word-second two broken broken (second-run 0)
 
 pub tells-closed : (b : Bool)
     × (tells (heldClosed rule vents (entryOf vents (recordsOf vents) one) [] .area) ≡ saying (wordOf b))

@@ -28,8 +28,7 @@ use Rattle.watcher.specs.Numbers.{saying, verdictFor, Stage, stageOf, lastIn, S
 use Rattle.watcher.specs.State.{parametersOf, brokenState}
 use Rattle.watcher.specs.Calls.{wrongArea, isClosed, isFresh, tooEarly, stateTests, feedRefusal, closeRefusal}
 use Rattle.watcher.specs.Calls.{knownNext, runningState, reportOf, feedWith, feedOf, knownNow, closedState}
-use Rattle.watcher.specs.Calls.{closeWith, closeOf}
-use Rattle.watcher.specs.Calls.{freshState}
+use Rattle.watcher.specs.Calls.{valueNow, closeWith, closeOf, freshState}
 use Rattle.demands.specs.Rewritten.{readRule, parametersIn, heldKnown, heldAfter}
 use Rattle.watcher.proofs.Decoded.{Accepted}
 use Rattle.watcher.proofs.Reports.{report-says}
@@ -128,7 +127,7 @@ module _ (rule signals : List ℕ) (fine : Accepted rule signals) where
 
   closed-by : (p : Phase) (ws : List ℕ) → closeRefusal (stateIn rule signals p) ws ≡ Fine
       → closeOf (stateIn rule signals p) ws ≡ closedBy (readRule rule) (stateIn rule signals p) ws (stageOf p)
-  unfolding closeOf closeWith closedBy parametersOf stateIn
+  unfolding closeOf closeWith closedBy valueNow parametersOf stateIn
   closed-by p ws e =
       ap (λ f. closeWith f (stateIn rule signals p) ws) e
       ∙ (λ i. closedBy (rule-in rule signals fine p i) (stateIn rule signals p) ws (stageOf p))

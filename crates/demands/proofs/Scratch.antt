@@ -26,7 +26,7 @@ use Rattle.watcher.specs.Records.{entryOf}
 use Rattle.watcher.specs.Lists.{Test, firstRefusal}
 use Rattle.watcher.specs.Calls.{wrongArea, stateTests, startRefusal, feedRefusal, closeRefusal}
 use Rattle.watcher.specs.Calls.{startWith, startOf, feedWith, feedOf, closeWith, closeOf, knownNext, knownNow}
-use Rattle.watcher.specs.Calls.{runningState, reportOf, closedState, askWith, askOf}
+use Rattle.watcher.specs.Calls.{runningState, reportOf, closedState, valueNow, askWith, askOf}
 use Rattle.demands.specs.Areas.{Alike}
 use Rattle.watcher.proofs.HeldLaws.{held-few}
 use Rattle.watcher.proofs.Asking.{ask-as-close}
@@ -114,7 +114,7 @@ module _ (a b : List ℕ) (alike : Alike a b) where
         ∙ sym (ap (λ f. feedWith f w bytes b) (sym (feed-refusal-same bytes) ∙ e))
 
     pub close-same : closeRefusal w a ≡ found.Fine → closeOf w a ≡ closeOf w b
-    unfolding closeOf closeWith closeRefusal
+    unfolding closeOf closeWith valueNow closeRefusal
     close-same e =
         ap (λ f. closeWith f w a) e
         ∙ ap

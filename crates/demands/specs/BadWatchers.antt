@@ -1,6 +1,7 @@
--- Watchers that must be caught (document 01, "What each statement has to settle"): each by what it does at every start
--- that a machine can make, or in every run.
+-- Watchers that must be caught (document 01, "What each statement has to settle"; one more by R-8): each by what it does
+-- at every start that a machine can make, or in every run.
 use mathlib.Core.Path.{_≡_}
+use mathlib.Core.Bool.{Bool}
 use mathlib.Core.List.{List, [], _∷_, _++_}
 use Prim.Native.Nat.{ℕ}
 use Rattle.meaning.specs.Rule.{Entry}
@@ -8,7 +9,7 @@ use Rattle.watcher.specs.declared.state.Word.the-variants as word
 use Rattle.watcher.specs.declared.state.Verdict.the-variants as verdict
 use Rattle.watcher.specs.declared.state.End.the-variants.{Closed}
 use Rattle.watcher.specs.Machine.{MachineBytes, MachineWords}
-use Rattle.watcher.specs.Numbers.{Says, foundIn, foundAt}
+use Rattle.watcher.specs.Numbers.{Says, foundIn, foundAt, verdictFor}
 use Rattle.demands.specs.Watching.{Functions, Call, feeding, closing, told, asked, ending, handed, reached}
 use Rattle.demands.specs.Watching.{MachineCalls, Begun}
 use Rattle.demands.specs.Logs.{going, courseOf}
@@ -58,12 +59,12 @@ NeverEndsBroken f =
     (rule signals ws : List ℕ) → Begun f rule signals ws → (calls : List Call) → MachineCalls calls
     → ending f (reached f rule signals ws calls) ≡ Closed verdict.Broken → ⊥
 
--- one that takes the word of the remainder for the value: asking never says broken behind the word pending
-abbrev pub AsksByWord : Functions → Type 0
-AsksByWord f =
+-- R-8: one that asks by the word alone: behind the word pending it always gives the same verdict, whichever it is
+abbrev pub AsksByWord : Functions → Bool → Type 0
+AsksByWord f b =
     (rule signals ws : List ℕ) → Begun f rule signals ws → (calls : List Call) → MachineCalls calls → (bytes : List ℕ)
     → MachineBytes bytes → Says (told f (reached f rule signals ws calls) bytes) word.Pending
-    → asked f (reached f rule signals ws (calls ++ (feeding bytes ∷ []))) ≡ Closed verdict.Broken → ⊥
+    → asked f (reached f rule signals ws (calls ++ (feeding bytes ∷ []))) ≡ Closed (verdictFor b)
 
 -- one that rewrites at the first record and afterwards only nods: later records leave the area
 abbrev pub OnlyNods : Functions → Type 0

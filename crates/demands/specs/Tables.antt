@@ -34,7 +34,7 @@ startTable rule signals ws =
     ∷ line 7 (wrongArea ws)
     ∷ []
 
--- feed and close first: 7, 12, 10
+-- feed, ask and close first: 7, 12, 10
 abbrev pub stateTable : Watcher → List ℕ → List Line
 stateTable w ws =
     line 7 (wrongArea ws)
@@ -50,7 +50,7 @@ feedTable w bytes ws =
     ∷ line 9 (tooEarly (stageOf (w .phase)) (timeOf bytes))
     ∷ [])
 
--- close then: 11
+-- ask and close then: 11
 abbrev pub closeTable : Watcher → List ℕ → List Line
 closeTable w ws = stateTable w ws ++ (line 11 (isFresh (stageOf (w .phase))) ∷ [])
 

@@ -1,6 +1,6 @@
 // What document 01 gives: the rules of its examples, and logs of two signals, which the two vents carry.
-use crate::bytes::part;
-use crate::bytes::pieces;
+use crate::judge::bytes::part;
+use crate::judge::bytes::pieces;
 use crate::made::put_in;
 use crate::made::put_interval;
 use crate::made::put_rule;
@@ -55,9 +55,10 @@ fn put_step(log: &mut [u8], n: usize, step: &[u8]) {
     if 4 <= n {
         return;
     }
-    put_in(log, 16 * n, 0, digit(byte(step, 0)));
-    put_in(log, 16 * n, 8, digit(byte(step, 2)));
-    put_in(log, 16 * n, 9, digit(byte(step, 4)));
+    let start = 16 * n;
+    put_in(log, start, 0, digit(byte(step, 0)));
+    put_in(log, start, 8, digit(byte(step, 2)));
+    put_in(log, start, 9, digit(byte(step, 4)));
 }
 
 // Writes a log of at most four steps, with a blank between two, and answers its length.

@@ -3,26 +3,38 @@ use crate::answers::print::difference;
 use crate::answers::print::number;
 use crate::answers::print::text;
 use crate::answers::watch::run;
-use crate::bytes::first;
-use crate::bytes::same;
 use crate::given::put_steps;
 use crate::given::rule_a;
 use crate::given::rule_b;
 use crate::given::rule_nothing;
 use crate::given::vent_signals;
+use crate::judge::bytes::first;
 use crate::made::put_rule;
 use crate::made::put_signal;
 use crate::made::put_wind;
+use ground::bytes::byte;
+
+// Whether a text, with zeros behind it, is what was said.
+fn same(said: &[u8], text: &[u8]) -> bool {
+    if said.len() < text.len() {
+        return false;
+    }
+    for place in 0..said.len() {
+        if byte(said, place) != byte(text, place) {
+            return false;
+        }
+    }
+    true
+}
 
 // Runs one log and answers whether the watcher said what is wanted; else the difference is written.
 fn right(rule: &[u8], signals: &[u8], log: &[u8], wanted: &[u8], area: &mut [u64]) -> bool {
-    let mut letters = [0u8; 16];
-    let count = run(rule, signals, log, &mut letters, area);
-    let said = first(&letters, count);
-    if same(said, wanted) {
+    let mut said = [0u8; 16];
+    run(rule, signals, log, &mut said, area);
+    if same(&said, wanted) {
         return true;
     }
-    difference(rule, signals, log, said, wanted);
+    difference(rule, signals, log, &said, wanted);
     false
 }
 
@@ -50,15 +62,15 @@ fn until(low: u8, high: u8, steps: &[u8], wanted: &[u8], area: &mut [u64]) -> bo
     vents(&rule, steps, wanted, area)
 }
 
-// Runs rule A.
-fn a(steps: &[u8], wanted: &[u8], area: &mut [u64]) -> bool {
-    until(0, 2, steps, wanted, area)
+// Runs rule A as an example.
+fn a(name: u64, steps: &[u8], wanted: &[u8], area: &mut [u64]) {
+    tell(name, until(0, 2, steps, wanted, area));
 }
 
-// Runs rule B.
-fn b(steps: &[u8], wanted: &[u8], area: &mut [u64]) -> bool {
+// Runs rule B as an example.
+fn b(name: u64, steps: &[u8], wanted: &[u8], area: &mut [u64]) {
     let rule = rule_b();
-    vents(&rule, steps, wanted, area)
+    tell(name, vents(&rule, steps, wanted, area));
 }
 
 // Runs one record of wind against limit 120, in km/h (unit 0) or m/s (unit 1).
@@ -74,18 +86,18 @@ fn wind(strength: u64, unit: u8, wanted: &[u8], area: &mut [u64]) -> bool {
 
 // Examples 1 to 4.
 fn until_examples(area: &mut [u64]) {
-    tell(1, a(b"0;1,0 1;1,0 2;0,1", b"PPP.K bnnya", area));
-    tell(2, a(b"0;1,0 3;0,1", b"PB.B bnna", area));
-    tell(3, a(b"0;1,0 2;0,1", b"PP.K bnya", area));
-    tell(4, a(b"0;1,0", b"P.B bna", area));
+    a(1, b"0;1,0 1;1,0 2;0,1", b"PPP.K bnnya", area);
+    a(2, b"0;1,0 3;0,1", b"PB.B bnna", area);
+    a(3, b"0;1,0 2;0,1", b"PP.K bnya", area);
+    a(4, b"0;1,0", b"P.B bna", area);
 }
 
 // Examples 5 to 8.
 fn minute_and_since_examples(area: &mut [u64]) {
-    tell(5, a(b"5;1,0 5;0,1", b"PP.K bnya", area));
-    tell(6, a(b"0;0,0 0;0,0", b"PB.B bnna", area));
-    tell(7, b(b"0;0,1 1;1,0", b"PP.K bnya", area));
-    tell(8, b(b"0;0,1 2;1,0", b"PP.B bnna", area));
+    a(5, b"5;1,0 5;0,1", b"PP.K bnya", area);
+    a(6, b"0;0,0 0;0,0", b"PB.B bnna", area);
+    b(7, b"0;0,1 1;1,0", b"PP.K bnya", area);
+    b(8, b"0;0,1 2;1,0", b"PP.B bnna", area);
 }
 
 // Example 9.
@@ -111,7 +123,7 @@ fn last_examples(area: &mut [u64]) {
     let refused = until(0, 10, b"0;1,0 9;0,1", b"4", area);
     tell(12, taken & refused);
     tell(13, until(9, 255, b"0;1,0 9;0,1", b"PP.K bnya", area));
-    tell(14, a(b"3;1,0 2;0,1 3;0,1", b"P9P.K bnnya", area));
+    a(14, b"3;1,0 2;0,1 3;0,1", b"P9P.K bnnya", area);
 }
 
 // The fourteen examples, in order.

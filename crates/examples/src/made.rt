@@ -1,5 +1,5 @@
 // Records of rules, signals and logs, written by the byte at which they begin.
-use crate::bytes::put;
+use crate::judge::bytes::put;
 
 // Writes one byte of a record, if the record begins below 1,000.
 pub(crate) fn put_in(bytes: &mut [u8], start: usize, place: usize, new: u8) {

@@ -35,7 +35,7 @@ fn scratch_is(area: &[u64], word: u64) -> usize {
     1
 }
 
-// How many are right of a watcher whose scratch is made dirty: asking twice, the dirt, closing, and the cleared scratch.
+// How many are right where the scratch is made dirty: asking twice, the dirt after it, closing, the cleared scratch.
 fn asked_on_dirt(wanted: usize, watcher: Watcher, area: &mut [u64]) -> u64
     ensures { λ r. ⌜ r ≤ 5 ⌝ }
 {

@@ -1,7 +1,7 @@
 -- Asking and closing from their steps: closing goes by what asking answers, so both answer the same.
 -- Assumes nothing.
 use mathlib.Core.Path.{_≡_, refl, sym, ap, ap₂, _∙_, subst}
-use mathlib.Core.Bool.{Bool, true, false}
+use mathlib.Core.Bool.{Bool}
 use mathlib.Core.List.{List}
 use Prim.Native.Nat.{ℕ}
 use Rattle.forms.specs.Form.{constant}
@@ -24,13 +24,8 @@ use Rattle.watcher.specs.Numbers.{verdictFor, verdictValue, foundAt, sta
 use Rattle.watcher.specs.State.{ruleOf, parametersOf}
 use Rattle.watcher.specs.Calls.{closedState, knownNow, closeRefusal, valueNow, askWith, askOf, closeWith, closeOf}
 use Rattle.watcher.specs.Clauses.{AskClause}
+use Rattle.watcher.proofs.Numbers.{verdict-says}
 use Rattle.watcher.specs.inside.Turns.{planOf, endedState, closeBy}
-
--- a verdict says the value that it was made for
-pub verdict-says : (b : Bool) → verdictValue (verdictFor b) ≡ b
-unfolding verdictValue verdictFor
-verdict-says true = refl
-verdict-says false = refl
 
 -- the area after closing, by the plan that is made
 pub closed-as : (b : Bool) (ws area : List ℕ) (plan other : Plan) → plan ≡ other → area ≡ closedWith plan b ws
@@ -70,7 +65,7 @@ module _ (w : Watcher) (ws : List ℕ) where
       go (found.Refused r) = refl
 
   pub ask-as-close : askOf w ws ≡ closeOf w ws .0 .answer
-  unfolding askOf askWith valueNow closeOf closeWith
+  unfolding askOf askWith closeOf closeWith
   ask-as-close = go (closeRefusal w ws)
     where
       go : (f : Found) → askWith f w ws ≡ closeWith f w ws .0 .answer

@@ -1,6 +1,7 @@
 -- The numbers that each call tests, in order; answers with the same number, or the same value, are the same answer.
 -- Assumes nothing.
 use mathlib.Core.Path.{_≡_, refl, sym, ap, _∙_}
+use mathlib.Core.Bool.{Bool, true, false}
 use mathlib.Core.List.{List, [], _∷_}
 use Prim.Native.Nat.{ℕ, _≤_}
 use lib.Dec.{lit≤}
@@ -86,6 +87,11 @@ pub valued : (v : Verdict) → verdictFor (verdictValue v) ≡ v
 unfolding verdictValue verdictFor
 valued Kept = refl
 valued Broken = refl
+
+pub verdict-says : (b : Bool) → verdictValue (verdictFor b) ≡ b
+unfolding verdictValue verdictFor
+verdict-says true = refl
+verdict-says false = refl
 
 pub verdict-value-one : (a b : Verdict) → verdictValue a ≡ verdictValue b → a ≡ b
 verdict-value-one a b e = sym (valued a) ∙ ap verdictFor e ∙ valued b

@@ -191,7 +191,7 @@ closeWith (found.Refused r) w ws = (record { answer = end.Refused r; next = w },
 closeWith found.Fine w ws =
     let m : ℕ = parametersOf w in
     let s : Known m = knownNow m ws (stageOf (w .phase)) in
-    let b : Bool = valueIfLast m (ruleOf w) s in (
+    let b : Bool = valueNow w ws in (
       record { answer = end.Closed (verdictFor b); next = closedState w b },
       areaOf mostParameters m (s .past) (close m (ruleOf w) s),
     )

@@ -4,52 +4,57 @@
 use crate::answers::letters::answer_letter;
 use crate::answers::letters::end_letter;
 use crate::answers::letters::number_letter;
-use crate::bytes::part;
-use crate::bytes::pieces;
-use crate::bytes::put;
+use crate::judge::bytes::part;
+use crate::judge::bytes::pieces;
+use crate::judge::bytes::put;
 use watcher::state::Found;
 use watcher::state::Wait;
 use watcher::state::Watcher;
 
-// Feeds a piece of the log, writes its letter at place n, and answers the next state.
-fn fed(watcher: Watcher, piece: &[u8], n: usize, said: &mut [u8], area: &mut [u64]) -> Watcher {
+// The letter of asking.
+fn asked(watcher: Watcher, area: &[u64]) -> u8 {
+    let end = watcher.ask(area);
+    end_letter(end, b'y', b'n')
+}
+
+// Feeds a piece of the log, writes its letter and that of asking at two places, and answers the next state.
+fn fed(
+    watcher: Watcher,
+    piece: &[u8],
+    place: usize,
+    asking: usize,
+    said: &mut [u8],
+    area: &mut [u64],
+) -> Watcher {
     let fed = watcher.feed(piece, area);
     let answer = fed.answer;
-    put(said, n, answer_letter(answer));
     let next = fed.next;
+    put(said, place, answer_letter(answer));
+    put(said, asking, asked(next, area));
     next
 }
 
-// Closes, writes the letter at a place, and answers the next state.
-fn closed(watcher: Watcher, place: usize, said: &mut [u8], area: &mut [u64]) -> Watcher {
+// Closes, and writes its letter and that of asking at two places.
+fn close(watcher: Watcher, place: usize, asking: usize, said: &mut [u8], area: &mut [u64]) {
     let ended = watcher.close(area);
     let answer = ended.answer;
-    put(said, place, end_letter(answer, b'K', b'B'));
     let next = ended.next;
-    next
+    put(said, place, end_letter(answer, b'K', b'B'));
+    put(said, asking, asked(next, area));
 }
 
-// Asks, and writes the letter at a place.
-fn ask(watcher: Watcher, place: usize, said: &mut [u8], area: &[u64]) {
-    let end = watcher.ask(area);
-    put(said, place, end_letter(end, b'y', b'n'));
-}
-
-// Feeds the log to a watcher that started, closes it, asks after each call, and answers how many letters it wrote.
-fn whole(start: Watcher, log: &[u8], said: &mut [u8], area: &mut [u64]) -> usize {
+// Feeds the log to a watcher that started, closes it, and writes the letters.
+fn whole(start: Watcher, log: &[u8], said: &mut [u8], area: &mut [u64]) {
     let mut watcher = start;
     let count = pieces(log, 16, 12);
-    ask(watcher, count + 3, said, area);
+    put(said, count + 3, asked(watcher, area));
     for n in 0..count {
-        let next = fed(watcher, part(log, 16 * n, 16), n, said, area);
-        ask(next, count + 4 + n, said, area);
+        let next = fed(watcher, part(log, 16 * n, 16), n, count + 4 + n, said, area);
         watcher = next;
     }
     put(said, count, b'.');
-    let last = closed(watcher, count + 1, said, area);
     put(said, count + 2, b' ');
-    ask(last, 2 * count + 4, said, area);
-    2 * count + 5
+    close(watcher, count + 1, 2 * count + 4, said, area);
 }
 
 // The watcher that starts with the lists; one of zeros where they are refused.
@@ -59,20 +64,11 @@ fn started(rule: &[u8], signals: &[u8], area: &mut [u64]) -> Watcher {
     watcher
 }
 
-// Starts, feeds and closes a watcher where the start would not be refused; answers how many letters it wrote.
-pub(crate) fn run(
-    rule: &[u8],
-    signals: &[u8],
-    log: &[u8],
-    said: &mut [u8],
-    area: &mut [u64],
-) -> usize {
+// Starts, feeds and closes a watcher where the start would not be refused; writes the letters.
+pub(crate) fn run(rule: &[u8], signals: &[u8], log: &[u8], said: &mut [u8], area: &mut [u64]) {
     let found = Watcher::start_would_refuse(rule, signals, area);
     match found {
-        Found::Refused(refusal) => {
-            put(said, 0, number_letter(refusal.number()));
-            1
-        }
+        Found::Refused(refusal) => put(said, 0, number_letter(refusal.number())),
         Found::Fine => whole(started(rule, signals, area), log, said, area),
     }
 }

@@ -4,27 +4,34 @@ use crate::answers::print::number;
 use crate::answers::print::text;
 use crate::answers::watch::horizon_said;
 use crate::answers::watch::run;
-use crate::bytes::first;
 use crate::cases::agree::agree;
 use crate::chance::random::random_log;
 use crate::chance::random::random_rule;
 use crate::chance::random::random_signals;
+use crate::judge::bytes::first;
 use crate::judge::letters::wanted;
 use crate::judge::lists::lists_refusal;
 use crate::judge::reach::NEVER;
 use crate::judge::reach::horizon;
 use crate::tally::DIFFERENCES;
-use crate::tally::HORIZON;
-use crate::tally::NO_HORIZON;
 use crate::tally::count;
+use crate::tally::count_horizon;
 use crate::tally::count_letters;
 
-// Compares the horizon that the watcher says with the second evaluator's; it is never where the lists are refused.
+// The second evaluator's horizon of the lists; never where they are refused.
+fn horizon_wanted(rule: &[u8], signals: &[u8]) -> u64 {
+    if lists_refusal(rule, signals) == 0 {
+        horizon(rule)
+    } else {
+        NEVER
+    }
+}
+
+// Compares the horizon that the watcher says with the second evaluator's.
 fn compare_horizon(rule: &[u8], signals: &[u8], area: &mut [u64], tally: &mut [u64]) {
     let said = horizon_said(rule, signals, area, NEVER);
-    let refused = lists_refusal(rule, signals) != 0;
-    let mine = if refused { NEVER } else { horizon(rule) };
-    count(tally, if said == NEVER { NO_HORIZON } else { HORIZON });
+    let mine = horizon_wanted(rule, signals);
+    count_horizon(tally, said == NEVER);
     if said == mine {
         return;
     }
@@ -44,13 +51,11 @@ fn settle(rule: &[u8], signals: &[u8], log: &[u8], said: &[u8], mine: &[u8], tal
 
 // Compares one case.
 fn compare(rule: &[u8], signals: &[u8], log: &[u8], area: &mut [u64], tally: &mut [u64]) {
-    let mut letters = [0u8; 32];
-    let mut hoped = [0u8; 32];
-    let letters_count = run(rule, signals, log, &mut letters, area);
-    let hoped_count = wanted(rule, signals, log, &mut hoped);
-    let said = first(&letters, letters_count);
-    let mine = first(&hoped, hoped_count);
-    settle(rule, signals, log, said, mine, tally);
+    let mut said = [0u8; 32];
+    let mut mine = [0u8; 32];
+    run(rule, signals, log, &mut said, area);
+    wanted(rule, signals, log, &mut mine);
+    settle(rule, signals, log, &said, &mine, tally);
     compare_horizon(rule, signals, area, tally);
 }
 

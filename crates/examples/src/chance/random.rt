@@ -1,8 +1,8 @@
 // Rules, signal lists and logs by chance: mostly right, now and then damaged.
-use crate::bytes::put;
 use crate::chance::dice::roll;
 use crate::chance::dice::roll_byte;
 use crate::chance::dice::seldom;
+use crate::judge::bytes::put;
 use crate::made::put_in;
 use crate::made::put_interval;
 use crate::made::put_rule;
@@ -106,11 +106,8 @@ fn damage(seed: &mut u64, bytes: &mut [u8], count: usize, sides: u64) {
         return;
     }
     let place = roll(seed, count as u64) as usize;
-    if seldom(seed, 2) {
-        put(bytes, place, roll_byte(seed, 256));
-    } else {
-        put(bytes, place, roll_byte(seed, 10));
-    }
+    let values = if seldom(seed, 2) { 256 } else { 10 };
+    put(bytes, place, roll_byte(seed, values));
 }
 
 // The length of a list: the usual one, and now and then another.
@@ -173,8 +170,9 @@ fn signal_record(seed: &mut u64, signals: &mut [u8], n: usize) {
     if 100 <= n {
         return;
     }
-    put_signal(signals, 8 * n, roll_byte(seed, 5) % 5 + 1, limit(seed));
-    put_in(signals, 8 * n, 1, roll_byte(seed, 2));
+    let start = 8 * n;
+    put_signal(signals, start, roll_byte(seed, 5) % 5 + 1, limit(seed));
+    put_in(signals, start, 1, roll_byte(seed, 2));
 }
 
 // Writes a signal list, and answers its length.
@@ -224,10 +222,11 @@ fn log_record(seed: &mut u64, log: &mut [u8], n: usize, before: u64) -> u64 {
     if 50 <= n {
         return time;
     }
-    put_time(log, 16 * n, time);
-    weather(seed, log, 16 * n);
-    vents(seed, log, 16 * n);
-    spoil(seed, log, 16 * n);
+    let start = 16 * n;
+    put_time(log, start, time);
+    weather(seed, log, start);
+    vents(seed, log, start);
+    spoil(seed, log, start);
     time
 }
 

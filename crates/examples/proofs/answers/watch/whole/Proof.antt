@@ -17,11 +17,14 @@ abbrev μ-loop : tie.MeasureT-loop
 pieces-requires : tie.Need-pieces-requires Inv-loop μ-loop
 pieces-requires c κs = search needs
 
-add-ask : tie.Need-add-ask Inv-loop μ-loop
-add-ask c = search needs
+add-put : tie.Need-add-put Inv-loop μ-loop
+add-put c = search needs
 
-ask-requires : tie.Need-ask-requires Inv-loop μ-loop
-ask-requires c κs = search needs
+asked-requires : tie.Need-asked-requires Inv-loop μ-loop
+asked-requires c κs = search needs
+
+put-requires : tie.Need-put-requires Inv-loop μ-loop
+put-requires c κs = search needs
 
 loop-holds : tie.Need-loop-holds Inv-loop μ-loop
 loop-holds c = search needs
@@ -32,17 +35,14 @@ mul-part c = search needs
 part-requires : tie.Need-part-requires Inv-loop μ-loop
 part-requires c κs = search needs
 
+add-fed : tie.Need-add-fed Inv-loop μ-loop
+add-fed c = search needs
+
+add-fed-2 : tie.Need-add-fed-2 Inv-loop μ-loop
+add-fed-2 c = search needs
+
 fed-requires : tie.Need-fed-requires Inv-loop μ-loop
 fed-requires c κs = search needs
-
-add-ask-2 : tie.Need-add-ask-2 Inv-loop μ-loop
-add-ask-2 c = search needs
-
-add-ask-3 : tie.Need-add-ask-3 Inv-loop μ-loop
-add-ask-3 c = search needs
-
-ask-requires-2 : tie.Need-ask-requires-2 Inv-loop μ-loop
-ask-requires-2 c κs = search needs
 
 add-n : tie.Need-add-n Inv-loop μ-loop
 add-n c = search needs
@@ -53,35 +53,26 @@ loop-less c = search needs
 loop-again : tie.Need-loop-again Inv-loop μ-loop
 loop-again c = search needs
 
-put-requires : tie.Need-put-requires Inv-loop μ-loop
-put-requires c κs = search needs
-
-add-closed : tie.Need-add-closed Inv-loop μ-loop
-add-closed c = search needs
-
-closed-requires : tie.Need-closed-requires Inv-loop μ-loop
-closed-requires c κs = search needs
-
-add-put : tie.Need-add-put Inv-loop μ-loop
-add-put c = search needs
-
 put-requires-2 : tie.Need-put-requires-2 Inv-loop μ-loop
 put-requires-2 c κs = search needs
 
-mul-ask : tie.Need-mul-ask Inv-loop μ-loop
-mul-ask c = search needs
+add-put-2 : tie.Need-add-put-2 Inv-loop μ-loop
+add-put-2 c = search needs
 
-add-ask-4 : tie.Need-add-ask-4 Inv-loop μ-loop
-add-ask-4 c = search needs
+put-requires-3 : tie.Need-put-requires-3 Inv-loop μ-loop
+put-requires-3 c κs = search needs
 
-ask-requires-3 : tie.Need-ask-requires-3 Inv-loop μ-loop
-ask-requires-3 c κs = search needs
+add-close : tie.Need-add-close Inv-loop μ-loop
+add-close c = search needs
 
-mul-result : tie.Need-mul-result Inv-loop μ-loop
-mul-result c = search needs
+mul-close : tie.Need-mul-close Inv-loop μ-loop
+mul-close c = search needs
 
-add-result : tie.Need-add-result Inv-loop μ-loop
-add-result c = search needs
+add-close-2 : tie.Need-add-close-2 Inv-loop μ-loop
+add-close-2 c = search needs
+
+close-requires : tie.Need-close-requires Inv-loop μ-loop
+close-requires c κs = search needs
 
 same-length : tie.Need-same-length Inv-loop μ-loop
 same-length c = search needs
@@ -99,28 +90,25 @@ whole-spec =
     Inv-loop
     μ-loop
     pieces-requires
-    add-ask
-    ask-requires
+    add-put
+    asked-requires
+    put-requires
     loop-holds
     mul-part
     part-requires
+    add-fed
+    add-fed-2
     fed-requires
-    add-ask-2
-    add-ask-3
-    ask-requires-2
     add-n
     loop-less
     loop-again
-    put-requires
-    add-closed
-    closed-requires
-    add-put
     put-requires-2
-    mul-ask
-    add-ask-4
-    ask-requires-3
-    mul-result
-    add-result
+    add-put-2
+    put-requires-3
+    add-close
+    mul-close
+    add-close-2
+    close-requires
     same-length
     same-length-2
     returns)

@@ -1,15 +1,16 @@
--- `bytes::same` is safe and ends: its loop counts up to a fixed end.
+-- `listed::same` is safe and ends: its loop counts up to a fixed end.
 -- Assumes nothing.
 use Prim.Native.Nat.{_-_, _≤_}
 use borrow.Author.Needs.{needs}
-use Rattle.examples.proofs.bytes.same.Statement.{statement}
-use Rattle.examples.proofs.bytes.same.Tie as tie
+use Rattle.examples.proofs.listed.same.Statement.{statement}
+use Rattle.examples.proofs.listed.same.Tie as tie
 
 abbrev Inv-loop : tie.InvT-loop
-Inv-loop a b place₀ place-end place = place ≤ place-end
+Inv-loop said text place₀ place-end place =
+    place ≤ place-end
 
 abbrev μ-loop : tie.MeasureT-loop
-μ-loop a b place₀ place-end place = place-end - place
+μ-loop said text place₀ place-end place = place-end - place
 
 returns : tie.Need-returns Inv-loop μ-loop
 returns c = search needs
