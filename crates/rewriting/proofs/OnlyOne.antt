@@ -54,11 +54,12 @@ module _ (list : List ℕ) (plan : Plan) (forms ws : List ℕ) where
       → ValueIfLastClause list plan last forms ws o′ → o ≡ o′
   only-value-if-last last = only-one _
 
-  pub only-close : (b : Bool) (o o′ : List ℕ) → CloseClause plan b ws o → CloseClause plan b ws o′ → o ≡ o′
-  only-close b = only-one _
-
   pub only-begin : (o o′ : List ℕ) → BeginClause list plan forms ws o → BeginClause list plan forms ws o′ → o ≡ o′
   only-begin = only-one _
+
+pub only-close : (plan : Plan) (b : Bool) (ws o o′ : List ℕ) → CloseClause plan b ws o → CloseClause plan b ws o′
+    → o ≡ o′
+only-close plan b ws = only-one _
 
 -- whether rows are wrong
 module _ (places k : ℕ) (ws : List ℕ) where

@@ -88,17 +88,6 @@ fn wrong_rule_record(rule: &[u8], k: usize) -> bool {
     wrong_ends(kind, field(rule, k, 4), field(rule, k, 5))
 }
 
-// Whether some rule record breaks the layout.
-fn any_wrong_rule_record(rule: &[u8]) -> bool {
-    let records = pieces(rule, 8, 16);
-    for k in 0..records {
-        if wrong_rule_record(rule, k) {
-            return true;
-        }
-    }
-    false
-}
-
 // Whether a is before b in the rule, and both have the same eight bytes.
 fn are_twins(rule: &[u8], a: usize, b: usize) -> bool {
     if b <= a {
@@ -163,17 +152,6 @@ fn wrong_signal_record(signals: &[u8], n: usize) -> bool {
     field(signals, n, 4) + field(signals, n, 5) + field(signals, n, 6) + field(signals, n, 7) != 0
 }
 
-// Whether some signal record breaks the layout.
-fn any_wrong_signal_record(signals: &[u8]) -> bool {
-    let records = pieces(signals, 8, 16);
-    for n in 0..records {
-        if wrong_signal_record(signals, n) {
-            return true;
-        }
-    }
-    false
-}
-
 // Whether rule record k names a signal that the list does not define.
 fn names_missing(rule: &[u8], k: usize, signals: &[u8]) -> bool {
     if field(rule, k, 0) != 3 {
@@ -182,11 +160,20 @@ fn names_missing(rule: &[u8], k: usize, signals: &[u8]) -> bool {
     signals.len() as u64 / 8 <= field(rule, k, 1)
 }
 
-// Whether the rule names a signal that the list does not define.
-fn any_missing(rule: &[u8], signals: &[u8]) -> bool {
-    let records = pieces(rule, 8, 16);
+// Whether record k of a list earns the refusal with a digit: 2 or 6 where it is a rule, 5 where it is a signal list.
+fn earns(digit: u8, list: &[u8], k: usize, signals: &[u8]) -> bool {
+    match digit {
+        b'2' => wrong_rule_record(list, k),
+        b'5' => wrong_signal_record(list, k),
+        _ => names_missing(list, k, signals),
+    }
+}
+
+// Whether some record of a list earns it.
+fn any_earns(digit: u8, list: &[u8], signals: &[u8]) -> bool {
+    let records = pieces(list, 8, 16);
     for k in 0..records {
-        if names_missing(rule, k, signals) {
+        if earns(digit, list, k, signals) {
             return true;
         }
     }
@@ -198,7 +185,7 @@ pub(crate) fn lists_refusal(rule: &[u8], signals: &[u8]) -> u8 {
     if wrong_length(rule) {
         return b'1';
     }
-    if any_wrong_rule_record(rule) {
+    if any_earns(b'2', rule, signals) {
         return b'2';
     }
     if any_twins(rule) {
@@ -210,10 +197,10 @@ pub(crate) fn lists_refusal(rule: &[u8], signals: &[u8]) -> u8 {
     if wrong_length(signals) {
         return b'5';
     }
-    if any_wrong_signal_record(signals) {
+    if any_earns(b'5', signals, signals) {
         return b'5';
     }
-    if any_missing(rule, signals) {
+    if any_earns(b'6', rule, signals) {
         return b'6';
     }
     0
