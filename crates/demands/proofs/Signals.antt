@@ -177,8 +177,8 @@ signals-are-tested =
           λ list count bytes i j o b. (
             word-bit list count bytes i ∙ ap isHolding (tested-blind list count bytes i (o .first) b),
             word-bit list count bytes j
-            ∙ ap isHolding
-            (tested-blind list count bytes j (o .second) (blind-both list bytes i j (o .channels) b)),
+                ∙ ap isHolding
+                (tested-blind list count bytes j (o .second) (blind-both list bytes i j (o .channels) b)),
           );
     }
 

@@ -78,9 +78,12 @@ abbrev pub windRecord : (unit wind : ℕ) → List ℕ
 windRecord unit wind =
     0 ∷ 0 ∷ 0 ∷ 0 ∷ 0 ∷ 0 ∷ wind % 256 ∷ wind / 256 ∷ 0 ∷ 0 ∷ 0 ∷ unit ∷ 0 ∷ 0 ∷ 0 ∷ 0 ∷ []
 
--- the air temperature is at least, or below, a limit in 16 bits with a sign; it rains
+-- the air temperature is at least, or below, a limit in 16 bits with a sign; the wind is below a limit; it rains
 abbrev pub temperature : (sense limit : ℕ) → List ℕ
 temperature sense limit = 1 ∷ sense ∷ limit % 256 ∷ limit / 256 ∷ 0 ∷ 0 ∷ 0 ∷ 0 ∷ []
+
+abbrev pub windBelow : (limit : ℕ) → List ℕ
+windBelow limit = 2 ∷ 1 ∷ limit ∷ 0 ∷ 0 ∷ 0 ∷ 0 ∷ 0 ∷ []
 
 abbrev pub raining : List ℕ
 raining = 5 ∷ 0 ∷ 1 ∷ 0 ∷ 0 ∷ 0 ∷ 0 ∷ 0 ∷ []
@@ -139,6 +142,12 @@ table =
     ∷ reads (temperature 1 (minus 10)) (airRecord (minus 10) 0) broken
     ∷ reads (temperature 1 (minus 10)) (airRecord (minus 11) 0) kept
     ∷ reads raining (airRecord 0 1) kept ∷ reads raining (airRecord 0 0) broken
+    -- a broken wire is neither hot nor cold, and a silent head neither strong nor weak wind; one less is a reading
+    ∷ reads (temperature 0 300) (airRecord 32767 0) broken ∷ reads (temperature 1 300) (airRecord 32767 0) broken
+    ∷ reads (temperature 0 300) (airRecord 32766 0) kept
+    ∷ winds 120 kilometresAnHour 65534 (65535 ∷ []) ∷ winds 120 metresASecond 65534 (65535 ∷ [])
+    ∷ reads (windBelow 120) (windRecord kilometresAnHour 65535) broken
+    ∷ reads (windBelow 120) (windRecord metresASecond 65535) broken
     -- how long rules A and B can stay open, one in which what has no upper end is not reached, and a nested one
     ∷ waits (ruleA 2) (within 2) ∷ waits ruleB never ∷ waits ruleUnreached (within 0) ∷ waits ruleNested (within 5)
     ∷ []
