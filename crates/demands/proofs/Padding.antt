@@ -19,10 +19,11 @@ use Rattle.ground.proofs.ByteLaws.{zeros-all}
 use Rattle.rewriting.specs.Decode.{byteOf, nodeIn, ruleIn}
 use Rattle.rewriting.proofs.Rules.{node-same}
 use Rattle.watcher.specs.Limits.{mostSignals, listBytes}
+use Rattle.watcher.specs.Rules.{recordsOf}
 use Rattle.watcher.specs.Signals.{limitOf}
-use Rattle.watcher.specs.Records.{timeOf, testOf, isHolding, signalWord, entryOf}
+use Rattle.watcher.specs.Records.{timeOf, testBy, testOf, isHolding, signalWord, entryOf}
 use Rattle.watcher.specs.Calls.{padded}
-use Rattle.watcher.proofs.Tests.{test-past}
+use Rattle.watcher.proofs.Tests.{test-past, test-here}
 
 -- a list of at most 128 bytes
 module _ (list : List ℕ) (short : length list ≤ listBytes) where
@@ -72,18 +73,37 @@ module _ (list : List ℕ) (short : length list ≤ listBytes) where
   little-padded at zero = refl
   little-padded at (suc n) = ap₂ (λ x y. x + 256 * y) (padded-at at) (little-padded (at + 1) n)
 
-  test-padded : (signals : ℕ) (bytes : List ℕ) (n : ℕ)
-      → testOf (padded list) signals bytes n ≡ testOf list signals bytes n
-  unfolding testOf limitOf
-  test-padded signals bytes n = rw (byte-padded n 0, byte-padded n 1, little-padded (8 * n + 2) 2)
+  count-padded : (n : ℕ) → n < recordsOf list → (n < 16) × (n < recordsOf (padded list))
+  unfolding recordsOf
+  count-padded n h = (omega arith, omega (arith, length-padded))
 
-  pub entry-padded : (signals : ℕ) (bytes : List ℕ) → entryOf (padded list) signals bytes ≡ entryOf list signals bytes
+  by-padded : (bytes : List ℕ) (n : ℕ)
+      → testBy bytes (byteOf (padded list) n 0) (byteOf (padded list) n 1) (limitOf (padded list) n)
+      ≡ testBy bytes (byteOf list n 0) (byteOf list n 1) (limitOf list n)
+  unfolding limitOf
+  by-padded bytes n = rw (byte-padded n 0, byte-padded n 1, little-padded (8 * n + 2) 2)
+
+  test-padded : (bytes : List ℕ) (n : ℕ)
+      → testOf (padded list) (recordsOf list) bytes n ≡ testOf list (recordsOf list) bytes n
+  test-padded bytes n = ⊎-elim within past (less-or-not n (recordsOf list))
+    where
+      past : recordsOf list ≤ n → testOf (padded list) (recordsOf list) bytes n ≡ testOf list (recordsOf list) bytes n
+      past h = sym (test-past (padded list) (recordsOf list) bytes n h) ∙ test-past list (recordsOf list) bytes n h
+
+      within : n < recordsOf list → testOf (padded list) (recordsOf list) bytes n ≡ testOf list (recordsOf list) bytes n
+      within h =
+          let k = count-padded n h in
+          sym (test-here (padded list) (recordsOf list) bytes n h (k .1) (k .0)) ∙ by-padded bytes n
+          ∙ test-here list (recordsOf list) bytes n h h (k .0)
+
+  pub entry-padded : (bytes : List ℕ)
+      → entryOf (padded list) (recordsOf list) bytes ≡ entryOf list (recordsOf list) bytes
   unfolding entryOf signalWord
-  entry-padded signals bytes =
+  entry-padded bytes =
       λ i.
       record {
         time = timeOf bytes;
-        signals = ofBits mostSignals (λ n. isHolding (test-padded signals bytes n i));
+        signals = ofBits mostSignals (λ n. isHolding (test-padded bytes n i));
       }
 
 -- a number whose bits stop before c is below 2 ^ c

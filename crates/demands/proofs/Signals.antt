@@ -9,18 +9,20 @@ use native.Mathlib.Omega.{arith}
 use lib.Dec.{eqb, ltb}
 use lib.IntN.{ℤ, pos, negsuc}
 use mir.Val.{sel}
-use borrow.Author.Tests.{eq-eqb, ne-eqb, eqb-true, eqb-false, not-false}
+use borrow.Author.Tests.{le-leb, eq-eqb, ne-eqb, eqb-true, eqb-false, not-false}
 use Rattle.ground.specs.Bytes.{little}
 use Rattle.ground.proofs.Folds.{less-or-not}
 use Rattle.meaning.specs.Rule.{holds}
 use Rattle.rewriting.specs.Decode.{byteOf}
 use Rattle.watcher.specs.declared.readings.Tested.{Tested}
 use Rattle.watcher.specs.declared.readings.Tested.the-variants.{Holds, DoesNotHold, NoReading}
+use Rattle.watcher.specs.Rules.{recordsOf}
 use Rattle.watcher.specs.Signals.{limitOf}
-use Rattle.watcher.specs.Records.{temperatureOf, windOf, meets, hasReading, answered, testBy, testOf, isHolding, entryOf}
+use Rattle.watcher.specs.Records.{temperatureOf, windOf, meets, hasReading, answered, testBy, lacks, testOf}
+use Rattle.watcher.specs.Records.{isHolding, entryOf}
 use Rattle.watcher.proofs.Channels.{channel-wind}
-use Rattle.watcher.proofs.Tests.{reads-air, reads-wind, reads-other, test-none, test-past, test-over, test-here}
-use Rattle.watcher.proofs.Tests.{word-bit}
+use Rattle.watcher.proofs.Tests.{reads-air, reads-wind, reads-other, test-none, lacks-past, lacks-records, lacks-most}
+use Rattle.watcher.proofs.Tests.{test-lacking, test-here, word-bit}
 use Rattle.watcher.proofs.Speed.{wind-exact}
 use Rattle.demands.specs.Signals.{Listed, Blind, ExactlyOne, Opposed, SignalsAreTested, WindIsExact}
 
@@ -97,9 +99,9 @@ module _ (list : List ℕ) (n : ℕ) (bytes : List ℕ) where
           absurd (true≢false (reads-other bytes _ (eqb-false channel 1 p) (eqb-false channel 2 q) ∙ r))
 
 -- signal n of a list, without a reading and with one
-module _ (list : List ℕ) (count : ℕ) (bytes : List ℕ) (n : ℕ) (here : Listed count n) where
+module _ (list : List ℕ) (count : ℕ) (bytes : List ℕ) (n : ℕ) (here : Listed list count n) where
   tested-by : testBy bytes (byteOf list n 0) (byteOf list n 1) (limitOf list n) ≡ testOf list count bytes n
-  tested-by = test-here list count bytes n (here .counted) (here .fits)
+  tested-by = test-here list count bytes n (here .counted) (here .written) (here .fits)
 
   tested-blind : Blind list n bytes → testOf list count bytes n ≡ NoReading
   tested-blind b = sym (test-none bytes _ _ _ (blind-none list n bytes b) ∙ tested-by)
@@ -149,20 +151,25 @@ blind-both : (list bytes : List ℕ) (i j : ℕ) → byteOf list i 0 ≡ byteOf 
 blind-both list bytes i j e (inl (c, t)) = inl (sym e ∙ c, t)
 blind-both list bytes i j e (inr (c, w)) = inr (sym e ∙ c, w)
 
+-- a signal that is not listed is lacking
+missing : (list : List ℕ) (count n : ℕ) → (Listed list count n → ⊥) → lacks list count n ≡ true
+missing list count n s =
+    ⊎-elim
+    (λ h.
+    ⊎-elim
+    (λ l.
+    ⊎-elim (λ k. absurd (s (record { counted = h; written = l; fits = k })))
+    (λ k. sym (lacks-most list count n h l) ∙ le-leb 16 n k) (less-or-not n 16))
+    (λ l. sym (lacks-records list count n h l)) (less-or-not n (recordsOf list)))
+    (λ h. sym (lacks-past list count n h)) (less-or-not n count)
+
 pub signals-are-tested : SignalsAreTested
 unfolding holds entryOf met
 signals-are-tested =
     record {
       seen = word-bit;
       one = λ list count bytes n. exactly-one (testOf list count bytes n);
-      lacks =
-          λ list count bytes n s.
-          sym
-          (⊎-elim
-          (λ h.
-          ⊎-elim (λ k. absurd (s (record { counted = h; fits = k }))) (test-over list count bytes n h)
-          (less-or-not n 16))
-          (test-past list count bytes n) (less-or-not n count));
+      lacks = λ list count bytes n s. sym (test-lacking list count bytes n (missing list count n s));
       blind =
           λ list count bytes n here. (tested-blind list count bytes n here, none-told list count bytes n here);
       opposite =

@@ -11,13 +11,15 @@ use Rattle.rewriting.specs.Decode.{byteOf}
 use Rattle.watcher.specs.declared.readings.Tested.{Tested}
 use Rattle.watcher.specs.declared.readings.Tested.the-variants.{Holds, DoesNotHold, NoReading}
 use Rattle.watcher.specs.Limits.{mostSignals}
+use Rattle.watcher.specs.Rules.{recordsOf}
 use Rattle.watcher.specs.Signals.{limitOf}
 use Rattle.watcher.specs.Records.{temperatureOf, windOf, answered, testOf, isHolding, entryOf}
 use Rattle.watcher.specs.Speed.{notSlower, perSecond, windSpeed}
 
--- signal n is one of a list of so many
-pub record Listed (count n : ℕ) : Type 0 where
+-- a list of so many signals has signal n
+pub record Listed (list : List ℕ) (count n : ℕ) : Type 0 where
   pub counted : n < count
+  pub written : n < recordsOf list
   pub fits : n < mostSignals
 
 -- a signal has no reading in a record: air (1) with 32767, or wind (2) with 65535, whatever the unit
@@ -31,8 +33,8 @@ ExactlyOne a b c = (a ⊎ b ⊎ c) × (a → b → ⊥) × (a → c → ⊥) × 
 
 -- signals i and j ask the same channel against the same limit, i for "at least" (0), j for "below" (1)
 pub record Opposed (list : List ℕ) (count i j : ℕ) : Type 0 where
-  pub first : Listed count i
-  pub second : Listed count j
+  pub first : Listed list count i
+  pub second : Listed list count j
   pub channels : byteOf list i 0 ≡ byteOf list j 0
   pub limits : limitOf list i ≡ limitOf list j
   pub asks-least : byteOf list i 1 ≡ 0
@@ -48,10 +50,10 @@ pub record SignalsAreTested : Type 0 where
       → ExactlyOne (testOf list count bytes n ≡ Holds) (testOf list count bytes n ≡ DoesNotHold)
       (testOf list count bytes n ≡ NoReading)
   -- a signal that the list lacks does not hold
-  pub lacks : (list : List ℕ) (count : ℕ) (bytes : List ℕ) (n : ℕ) → (Listed count n → ⊥)
+  pub lacks : (list : List ℕ) (count : ℕ) (bytes : List ℕ) (n : ℕ) → (Listed list count n → ⊥)
       → testOf list count bytes n ≡ DoesNotHold
   -- no reading is answered where there is none, and nowhere else
-  pub blind : (list : List ℕ) (count : ℕ) (bytes : List ℕ) (n : ℕ) → Listed count n
+  pub blind : (list : List ℕ) (count : ℕ) (bytes : List ℕ) (n : ℕ) → Listed list count n
       → (Blind list n bytes → testOf list count bytes n ≡ NoReading)
       × (testOf list count bytes n ≡ NoReading → Blind list n bytes)
   -- with a reading "below" is the opposite of "at least"
@@ -65,7 +67,7 @@ pub record SignalsAreTested : Type 0 where
 -- than the limit, "below" (1) otherwise
 abbrev pub WindIsExact : Type 0
 WindIsExact =
-    (list : List ℕ) (count : ℕ) (bytes : List ℕ) (n : ℕ) → Listed count n → byteOf list n 0 ≡ 2
+    (list : List ℕ) (count : ℕ) (bytes : List ℕ) (n : ℕ) → Listed list count n → byteOf list n 0 ≡ 2
     → (windOf bytes ≡ 65535 → ⊥)
     → testOf list count bytes n
     ≡ (let met : Bool = notSlower (windSpeed bytes) (perSecond (limitOf list n)) in
