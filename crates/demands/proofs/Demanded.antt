@@ -1,10 +1,8 @@
 -- The owner's three demands hold of any functions that meet the clauses of start, feed, ask and close.
 -- Assumes nothing.
 use mathlib.Core.Path.{_≡_, refl, sym, ap, _∙_, subst}
-use mathlib.Core.Bool.{false, not, cond}
 use mathlib.Core.List.{List, [], _∷_, _++_}
 use Prim.Native.Nat.{ℕ}
-use native.Mathlib.Omega.{arith}
 use Rattle.meaning.specs.Rule.{Entry}
 use Rattle.watcher.specs.declared.state.Watcher.{Watcher}
 use Rattle.watcher.specs.declared.state.Found.{Found}

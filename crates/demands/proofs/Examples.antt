@@ -51,6 +51,6 @@ unfolding table passes fold someIn everyIn tab bit ofBits little constant parame
     wordFor word refusalNumber byteOf recordsOf wrongLengthIn usedBytes uses fairLimits namesRight usedRight byteBreaks
     firstBroken sameRecord firstTwins isFound orElse firstWhere endless intervalOf intervalFor nodeOf recordIn nodeFor
     nodeIn ruleIn signalBreaks wrongSignals namesMissing limitOf wrongRecord timeOf temperatureOf windOf windMeets meets
-    hasReading testBy lacks testOf signalWord entryOf firstRefusal isRefused wordOf manyParameters listTests listsRefusal lastTime accepts
-    logWith readRule parametersIn
+    hasReading testBy lacks testOf signalWord entryOf firstRefusal isRefused wordOf manyParameters listTests
+    listsRefusal lastTime accepts logWith readRule parametersIn
 examples = refl

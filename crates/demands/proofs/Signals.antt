@@ -4,7 +4,7 @@ use mathlib.Core.Path.{_≡_, refl, sym, ap, ap₂, _∙_}
 use mathlib.Core.Bool.{Bool, true, false, not, cond, true≢false}
 use mathlib.Core.Logic.{_⊎_, inl, inr, ⊎-elim}
 use mathlib.Core.List.{List}
-use Prim.Native.Nat.{ℕ, suc, _-_, _<_}
+use Prim.Native.Nat.{ℕ, suc, _-_}
 use native.Mathlib.Omega.{arith}
 use lib.Dec.{eqb, ltb}
 use lib.IntN.{ℤ, pos, negsuc}
@@ -24,7 +24,7 @@ use Rattle.watcher.proofs.Channels.{channel-wind}
 use Rattle.watcher.proofs.Tests.{reads-air, reads-wind, reads-other, test-none, lacks-past, lacks-records, lacks-most}
 use Rattle.watcher.proofs.Tests.{test-lacking, test-here, word-bit}
 use Rattle.watcher.proofs.Speed.{wind-exact}
-use Rattle.demands.specs.Signals.{Listed, Blind, ExactlyOne, Opposed, SignalsAreTested, WindIsExact}
+use Rattle.demands.specs.Signals.{Listed, Blind, ExactlyOne, SignalsAreTested, WindIsExact}
 
 -- an answer is one of the three, and no two are the same
 number : Tested → ℕ
@@ -94,7 +94,9 @@ module _ (list : List ℕ) (n : ℕ) (bytes : List ℕ) where
       go true b p q =
           let c = eqb-true channel 1 p in
           inl (c, number-air bytes (marked (little bytes 4 2) 32767 (reads-air bytes _ c ∙ r)))
-      go false true p q = let c = eqb-true channel 2 q in inr (c, marked (little bytes 6 2) 65535 (reads-wind bytes _ c ∙ r))
+      go false true p q =
+          let c = eqb-true channel 2 q in
+          inr (c, marked (little bytes 6 2) 65535 (reads-wind bytes _ c ∙ r))
       go false false p q =
           absurd (true≢false (reads-other bytes _ (eqb-false channel 1 p) (eqb-false channel 2 q) ∙ r))
 

@@ -1,6 +1,6 @@
 -- How the demands read signals (document 02, R-3): by the test of a signal in a record.
 use mathlib.Core.Path.{_≡_}
-use mathlib.Core.Bool.{Bool, true, false, not, cond}
+use mathlib.Core.Bool.{Bool, false, not, cond}
 use mathlib.Core.Logic.{_⊎_}
 use mathlib.Core.List.{List}
 use Prim.Native.Nat.{ℕ, _<_}
@@ -8,7 +8,6 @@ use lib.Dec.{eqb}
 use lib.IntN.{pos}
 use Rattle.meaning.specs.Rule.{holds}
 use Rattle.rewriting.specs.Decode.{byteOf}
-use Rattle.watcher.specs.declared.readings.Tested.{Tested}
 use Rattle.watcher.specs.declared.readings.Tested.the-variants.{Holds, DoesNotHold, NoReading}
 use Rattle.watcher.specs.Limits.{mostSignals}
 use Rattle.watcher.specs.Rules.{recordsOf}
