@@ -135,13 +135,5 @@ pub fn horizon(state: &[u8]) -> u64 {
 /// Tests one signal of a list in one log record: 111 holds, 112 does not hold, 113 no reading, or a refusal: 5, 8 or 6,
 /// tested in that order. Writes nothing.
 pub fn test(signals: &[u8], number: usize, record: &[u8]) -> u8 {
-    unsafe {
-        hunchcold_test(
-            signals.as_ptr(),
-            signals.len(),
-            number,
-            record.as_ptr(),
-            record.len(),
-        )
-    }
+    unsafe { hunchcold_test(signals.as_ptr(), signals.len(), number, record.as_ptr(), record.len()) }
 }
