@@ -173,7 +173,7 @@ signals-are-tested =
       one = λ list count bytes n. exactly-one (testOf list count bytes n);
       lacks = λ list count bytes n s. sym (test-lacking list count bytes n (missing list count n s));
       blind =
-          λ list count bytes n here. (tested-blind list count bytes n here, none-told list count bytes n here);
+          λ list count bytes n here. (none-told list count bytes n here, tested-blind list count bytes n here);
       opposite =
           λ list count bytes i j o s.
           word-bit list count bytes j

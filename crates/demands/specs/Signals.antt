@@ -1,7 +1,7 @@
 -- How the demands read signals (document 02, R-3): by the test of a signal in a record.
 use mathlib.Core.Path.{_≡_}
 use mathlib.Core.Bool.{Bool, false, not, cond}
-use mathlib.Core.Logic.{_⊎_}
+use mathlib.Core.Logic.{_⊎_, _↔_}
 use mathlib.Core.List.{List}
 use Prim.Native.Nat.{ℕ, _<_}
 use lib.Dec.{eqb}
@@ -53,8 +53,7 @@ pub record SignalsAreTested : Type 0 where
       → testOf list count bytes n ≡ DoesNotHold
   -- no reading is answered where there is none, and nowhere else
   pub blind : (list : List ℕ) (count : ℕ) (bytes : List ℕ) (n : ℕ) → Listed list count n
-      → (Blind list n bytes → testOf list count bytes n ≡ NoReading)
-      × (testOf list count bytes n ≡ NoReading → Blind list n bytes)
+      → (testOf list count bytes n ≡ NoReading) ↔ Blind list n bytes
   -- with a reading "below" is the opposite of "at least"
   pub opposite : (list : List ℕ) (count : ℕ) (bytes : List ℕ) (i j : ℕ) → Opposed list count i j
       → (Blind list i bytes → ⊥) → holds (entryOf list count bytes) j ≡ not (holds (entryOf list count bytes) i)
