@@ -36,9 +36,9 @@ pub fn check(case: &Case, counts: &mut Counts) -> Result<(), String> {
 fn test(list: &[u8], number: usize, record: &[u8], counts: &mut Counts) -> Result<(), String> {
     let answer = raw::test(list, number, record);
     let wanted = plain::test(list, number, record);
-    let call = || format!("test of signal {number} of {} in {}", hex(list), hex(record));
     if answer != wanted {
-        return same(&call(), "answer", answer, wanted);
+        let call = format!("test of signal {number} of {} in {}", hex(list), hex(record));
+        return same(&call, "answer", answer, wanted);
     }
     counts.test.add(answer as u64);
     match answer {

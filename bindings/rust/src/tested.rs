@@ -6,9 +6,9 @@ use std::fmt;
 /// What a test of a signal in a log record answers.
 ///
 /// No reading is 32767 in the record's temperature field, as on a broken wire, and 65535 in its wind field, in either
-/// unit. Such a record is accepted all the same, and the signals of that field do not hold in it, neither "at least" nor
-/// "below". Vents and rain always have a reading. 32767 as wind, 65535 as temperature, which is -1, and either number as
-/// a limit are plain numbers.
+/// unit. Such a record is accepted all the same, and the signals of that field do not hold in it, neither "at least"
+/// nor "below". Vents and rain always have a reading. 32767 as wind, 65535 as temperature, which is -1, and either
+/// number as a limit are plain numbers.
 #[derive(Clone, Copy, Debug, PartialEq, Eq, Hash)]
 pub enum Tested {
     /// There is a reading, and it is at least the limit, or below it, as the signal asks.
