@@ -3,6 +3,7 @@
 use borrow.Author.Needs.{needs}
 use mathlib.Core.Path.{sym}
 use Rattle.lines.specs.Text.{decimal, toldLine}
+use Rattle.lines.specs.Lines.{behindText}
 use Rattle.lines.proofs.Texts.{text-then, same-text}
 use Rattle.lines.proofs.records.put_told.Statement.{statement}
 use Rattle.lines.proofs.records.put_told.Tie as tie
@@ -49,7 +50,7 @@ returns c =
     text-then _ _ _ _ _ time
     (text-then _ _ _ _ _ (space .put-text .ensures)
     (text-then _ _ _ _ _ (word .put-word .ensures)
-    (text-then _ _ _ _ _ (behind .put-behind .ensures) (end .put-text2 .ensures))))
+    (text-then _ _ _ (behindText _ _ _ _) _ (behind .put-behind .ensures) (end .put-text2 .ensures))))
 
 pub put-told-spec : {M : Type 1} → statement M
 put-told-spec =
