@@ -1,9 +1,9 @@
--- `rows::put_term` goes by whether the term is there, and whether a lower one is.
+-- `text::put_listed` goes by whether the number is listed, and whether a lower one is.
 -- Assumes nothing.
 use borrow.Author.Needs.{needs}
-use Rattle.lines.proofs.RowLaws.{term-none, term-first, term-later}
-use Rattle.lines.proofs.rows.put_term.Statement.{statement}
-use Rattle.lines.proofs.rows.put_term.Tie as tie
+use Rattle.lines.proofs.Numbers.{listed-none, listed-first, listed-later}
+use Rattle.lines.proofs.text.put_listed.Statement.{statement}
+use Rattle.lines.proofs.text.put_listed.Tie as tie
 
 slice-aggregate-put-text : tie.Need-slice-aggregate-put-text
 slice-aggregate-put-text c = search needs
@@ -22,7 +22,7 @@ returns c =
     let number = c .before .before in
     let comma = number .before .before .before .before in
     let lower = comma .before .before .before in
-    term-later _ _ _ _ _ _ (lower .before .if1 .taken) (lower .if2 .taken) (comma .put-text .ensures)
+    listed-later _ _ _ _ _ _ (lower .before .if1 .taken) (lower .if2 .taken) (comma .put-text .ensures)
     (number .put-number .ensures)
 
 put-number-requires-2 : tie.Need-put-number-requires-2
@@ -35,14 +35,14 @@ returns-2 : tie.Need-returns-2
 returns-2 c =
     let number = c .before .before in
     let lower = number .before .before in
-    term-first _ _ _ _ _ (lower .before .if1 .taken) (lower .if2 .left) (number .put-number2 .ensures)
+    listed-first _ _ _ _ _ (lower .before .if1 .taken) (lower .if2 .left) (number .put-number2 .ensures)
 
 returns-3 : tie.Need-returns-3
 returns-3 c =
-    term-none _ _ _ _ (c .if1 .left)
+    listed-none _ _ _ _ (c .if1 .left)
 
-pub put-term-spec : {M : Type 1} → statement M
-put-term-spec =
+pub put-listed-spec : {M : Type 1} → statement M
+put-listed-spec =
     tie.close
     (tie.spec
     slice-aggregate-put-text

@@ -1,0 +1,41 @@
+-- Laws of the text of signals that have no reading.
+-- Assumes nothing.
+use mathlib.Core.Path.{_≡_, sym, ap, _∙_}
+use mathlib.Core.Bool.{Bool, true, false, cond}
+use mathlib.Core.List.{List, [], _∷_, _++_}
+use Prim.Native.Nat.{ℕ}
+use Rattle.ground.specs.Fold.{some}
+use Rattle.watcher.specs.declared.readings.Tested.{Tested}
+use Rattle.watcher.specs.Limits.{mostSignals}
+use Rattle.watcher.specs.Records.{testOf}
+use Rattle.lines.specs.Text.{space, numbersText}
+use Rattle.lines.specs.Blind.{noReading, isBlind, blindText}
+use Rattle.lines.specs.inside.Puts.{putText}
+use Rattle.lines.proofs.Texts.{text-then, same-text}
+
+module _ (list : List ℕ) (signals : ℕ) (piece : List ℕ) where
+  -- what a test answered, by its case
+  pub blind-case : (n : ℕ) (o t : Tested) → o ≡ testOf list signals piece n → o ≡ t
+      → noReading t ≡ isBlind list signals piece n
+  unfolding isBlind
+  blind-case n o t e case = ap noReading (sym case ∙ e)
+
+  -- some signal is blind, and none
+  abbrev textIf : Bool → List ℕ
+  textIf b =
+      cond b
+      ((space ∷ 98 ∷ 108 ∷ 105 ∷ 110 ∷ 100 ∷ space ∷ []) ++ numbersText (isBlind list signals piece) mostSignals) []
+
+  module _ (o : ℕ × List ℕ) (b : Bool) (known : b ≡ some mostSignals (isBlind list signals piece)) where
+    pub blind-some : (p q : ℕ × List ℕ) → b ≡ true
+        → p ≡ putText o (space ∷ 98 ∷ 108 ∷ 105 ∷ 110 ∷ 100 ∷ space ∷ [])
+        → q ≡ putText p (numbersText (isBlind list signals piece) mostSignals)
+        → q ≡ putText o (blindText list signals piece)
+    unfolding blindText
+    blind-some p q e h l =
+        same-text textIf (some mostSignals (isBlind list signals piece)) true o q (sym known ∙ e)
+        (text-then o p q _ (numbersText (isBlind list signals piece) mostSignals) h l)
+
+    pub blind-none : b ≡ false → o ≡ putText o (blindText list signals piece)
+    unfolding blindText putText
+    blind-none e = sym (ap (λ x. putText o (textIf x)) (sym known ∙ e))
