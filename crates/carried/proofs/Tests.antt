@@ -61,9 +61,9 @@ module _ (signals : List ℕ) (number : ℕ) (piece : List ℕ) where
     unfolding testBytes NoneHolds
     told-code = rw (none .0, none .1 .0, none .1 .1 .0)
 
-    here : Listed signals (recordsOf signals) number
+    is-listed : Listed signals (recordsOf signals) number
     unfolding NoneHolds
-    here =
+    is-listed =
         let below = leb-false (recordsOf signals) number (none .1 .1 .0) in
         let whole = signals-whole signals (none .0) in
         record { counted = below; written = below; fits = omega (arith, below, whole .most) }
@@ -81,7 +81,8 @@ module _ (f : Exports) (right : MeetsExports f) where
             );
         blind =
             λ none.
-            let blind = signals-are-tested .blind signals (recordsOf signals) piece number (here signals number piece none) in
+            let here = is-listed signals number piece none in
+            let blind = signals-are-tested .blind signals (recordsOf signals) piece number here in
             (λ e. blind .0 (code-none t .0 (sym (code none) ∙ e)), λ e. code none ∙ code-none t .1 (blind .1 e));
       }
     where

@@ -13,29 +13,24 @@ use Rattle.lines.specs.Blind.{noReading, isBlind, blindText}
 use Rattle.lines.specs.inside.Puts.{putText}
 use Rattle.lines.proofs.Texts.{text-then, same-text}
 
-module _ (list : List ℕ) (signals : ℕ) (piece : List ℕ) where
-  -- what a test answered, by its case
-  pub blind-case : (n : ℕ) (o t : Tested) → o ≡ testOf list signals piece n → o ≡ t
-      → noReading t ≡ isBlind list signals piece n
-  unfolding isBlind
-  blind-case n o t e case = ap noReading (sym case ∙ e)
+-- what a test answered, by its case
+pub blind-case : (list : List ℕ) (signals : ℕ) (piece : List ℕ) (n : ℕ) (o t : Tested)
+    → o ≡ testOf list signals piece n → o ≡ t → noReading t ≡ isBlind list signals piece n
+unfolding isBlind
+blind-case list signals piece n o t e case = ap noReading (sym case ∙ e)
 
-  -- some signal is blind, and none
+-- some signal is blind, and none
+module _ (blind : ℕ → Bool) (o : ℕ × List ℕ) (b : Bool) (known : b ≡ some mostSignals blind) where
   abbrev textIf : Bool → List ℕ
-  textIf b =
-      cond b
-      ((space ∷ 98 ∷ 108 ∷ 105 ∷ 110 ∷ 100 ∷ space ∷ []) ++ numbersText (isBlind list signals piece) mostSignals) []
+  textIf b = cond b ((space ∷ 98 ∷ 108 ∷ 105 ∷ 110 ∷ 100 ∷ space ∷ []) ++ numbersText blind mostSignals) []
 
-  module _ (o : ℕ × List ℕ) (b : Bool) (known : b ≡ some mostSignals (isBlind list signals piece)) where
-    pub blind-some : (p q : ℕ × List ℕ) → b ≡ true
-        → p ≡ putText o (space ∷ 98 ∷ 108 ∷ 105 ∷ 110 ∷ 100 ∷ space ∷ [])
-        → q ≡ putText p (numbersText (isBlind list signals piece) mostSignals)
-        → q ≡ putText o (blindText list signals piece)
-    unfolding blindText
-    blind-some p q e h l =
-        same-text textIf (some mostSignals (isBlind list signals piece)) true o q (sym known ∙ e)
-        (text-then o p q _ (numbersText (isBlind list signals piece) mostSignals) h l)
+  pub blind-some : (p q : ℕ × List ℕ) → b ≡ true → p ≡ putText o (space ∷ 98 ∷ 108 ∷ 105 ∷ 110 ∷ 100 ∷ space ∷ [])
+      → q ≡ putText p (numbersText blind mostSignals) → q ≡ putText o (blindText blind)
+  unfolding blindText
+  blind-some p q e h l =
+      same-text textIf (some mostSignals blind) true o q (sym known ∙ e)
+      (text-then o p q _ (numbersText blind mostSignals) h l)
 
-    pub blind-none : b ≡ false → o ≡ putText o (blindText list signals piece)
-    unfolding blindText putText
-    blind-none e = sym (ap (λ x. putText o (textIf x)) (sym known ∙ e))
+  pub blind-none : b ≡ false → o ≡ putText o (blindText blind)
+  unfolding blindText putText
+  blind-none e = sym (ap (λ x. putText o (textIf x)) (sym known ∙ e))

@@ -108,14 +108,12 @@ numbers-short test (suc k) h = go (less-or-not k 10) (numbers-short test k (omeg
           decimal-short 1 k (omega arith),
         )
 
-blind-short : (list : List ℕ) (signals : ℕ) (piece : List ℕ) → length (blindText list signals piece) ≤ 45
+blind-short : (blind : ℕ → Bool) → length (blindText blind) ≤ 45
 unfolding blindText
-blind-short list signals piece =
-    go (some mostSignals (isBlind list signals piece)) (numbers-short (isBlind list signals piece) mostSignals (lit≤ tt))
+blind-short blind = go (some mostSignals blind) (numbers-short blind mostSignals (lit≤ tt))
   where
-    go : (b : Bool) → length (numbersText (isBlind list signals piece) mostSignals) ≤ 38
-        → length (cond b ((space ∷ 98 ∷ 108 ∷ 105 ∷ 110 ∷ 100 ∷ space ∷ [])
-        ++ numbersText (isBlind list signals piece) mostSignals) []) ≤ 45
+    go : (b : Bool) → length (numbersText blind mostSignals) ≤ 38
+        → length (cond b ((space ∷ 98 ∷ 108 ∷ 105 ∷ 110 ∷ 100 ∷ space ∷ []) ++ numbersText blind mostSignals) []) ≤ 45
     go true s = omega (arith, s)
     go false s = lit≤ tt
 
@@ -125,9 +123,9 @@ behind-short piece false w ws = lit≤ tt
 behind-short piece true w ws =
     omega (
       arith,
-      length-append (askText (askOf w ws)) (blindText (w .list) (w .signals) piece),
+      length-append (askText (askOf w ws)) (blindText (isBlind (w .list) (w .signals) piece)),
       ask-short (askOf w ws),
-      blind-short (w .list) (w .signals) piece,
+      blind-short (isBlind (w .list) (w .signals) piece),
     )
 
 -- a refusal's line

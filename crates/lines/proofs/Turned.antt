@@ -12,7 +12,7 @@ use Rattle.watcher.specs.Records.{timeOf}
 use Rattle.watcher.specs.State.{isRefused}
 use Rattle.watcher.specs.Calls.{startOf, feedOf, askOf}
 use Rattle.lines.specs.Text.{foundLine, answerLine, askText, endLine}
-use Rattle.lines.specs.Blind.{blindText}
+use Rattle.lines.specs.Blind.{isBlind, blindText}
 use Rattle.lines.specs.Lines.{placed, behindText, pieceLine, startedLine, startLine, fedLine, feedLine, askLine}
 use Rattle.lines.specs.inside.Puts.{putText}
 use Rattle.lines.proofs.Texts.{text-then, text-placed, same-text}
@@ -30,11 +30,11 @@ start-turned rule signals ws out s ws′ ready n out′ e r h =
 -- behind a word: more, and nothing
 module _ (piece : List ℕ) (more : Bool) (w : Watcher) (ws : List ℕ) (o : ℕ × List ℕ) where
   pub behind-more : (a : End) (p q : ℕ × List ℕ) → more ≡ true → a ≡ askOf w ws → p ≡ putText o (askText a)
-      → q ≡ putText p (blindText (w .list) (w .signals) piece) → q ≡ putText o (behindText piece more w ws)
+      → q ≡ putText p (blindText (isBlind (w .list) (w .signals) piece)) → q ≡ putText o (behindText piece more w ws)
   unfolding behindText
   behind-more a p q e is h l =
       same-text (λ b. behindText piece b w ws) more true o q e
-      (text-then o p q (askText (askOf w ws)) (blindText (w .list) (w .signals) piece)
+      (text-then o p q (askText (askOf w ws)) (blindText (isBlind (w .list) (w .signals) piece))
       (same-text askText (askOf w ws) a o p (sym is) h) l)
 
   pub behind-none : more ≡ false → o ≡ putText o (behindText piece more w ws)

@@ -15,12 +15,12 @@ noReading Holds = false
 noReading DoesNotHold = false
 noReading NoReading = true
 
--- signal n, of so many in the list, has no reading in the record
+-- signal n of a list of so many has no reading in the record
 unfoldable pub isBlind : (list : List ℕ) (signals : ℕ) (piece : List ℕ) → ℕ → Bool
 isBlind list signals piece n = noReading (testOf list signals piece n)
 
 -- where some signal is blind: a space, "blind", a space and the numbers of those that are
-unfoldable pub blindText : (list : List ℕ) (signals : ℕ) (piece : List ℕ) → List ℕ
-blindText list signals piece =
-    cond (some mostSignals (isBlind list signals piece))
-    ((space ∷ 98 ∷ 108 ∷ 105 ∷ 110 ∷ 100 ∷ space ∷ []) ++ numbersText (isBlind list signals piece) mostSignals) []
+unfoldable pub blindText : (blind : ℕ → Bool) → List ℕ
+blindText blind =
+    cond (some mostSignals blind)
+    ((space ∷ 98 ∷ 108 ∷ 105 ∷ 110 ∷ 100 ∷ space ∷ []) ++ numbersText blind mostSignals) []

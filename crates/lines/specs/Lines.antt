@@ -12,7 +12,7 @@ use Rattle.watcher.specs.Calls.{startOf, feedOf, askOf}
 use Rattle.lines.specs.declared.turns.Opened.{Opened}
 use Rattle.lines.specs.declared.turns.Turn.{Turn}
 use Rattle.lines.specs.Text.{foundLine, answerLine, askText, endLine}
-use Rattle.lines.specs.Blind.{blindText}
+use Rattle.lines.specs.Blind.{isBlind, blindText}
 
 -- a text at the beginning of a buffer: what does not fit is cut off, and what is behind stays
 unfoldable pub placed : (out text : List ℕ) → ℕ × List ℕ
@@ -33,7 +33,7 @@ startLine rule signals ws out = startedLine out (startOf rule signals ws)
 -- what stands behind the word of a record, of the state and area after it: nothing, or more
 unfoldable pub behindText : (piece : List ℕ) (more : Bool) → Watcher → (ws : List ℕ) → List ℕ
 behindText piece false w ws = []
-behindText piece true w ws = askText (askOf w ws) ++ blindText (w .list) (w .signals) piece
+behindText piece true w ws = askText (askOf w ws) ++ blindText (isBlind (w .list) (w .signals) piece)
 
 -- the line of a piece, by what feeding it hands back
 unfoldable pub pieceLine : (piece : List ℕ) (more : Bool) → Fed × List ℕ → List ℕ

@@ -11,7 +11,7 @@ ghost use Rattle.lines.specs.inside.Puts.{putText};
 ghost use Rattle.lines.specs.Text.{numbersText};
 ghost use Rattle.lines.specs.Blind.{isBlind, blindText};
 
-// Whether signal n, of so many in the list, has no reading in the record.
+// Whether signal n of a list of so many has no reading in the record.
 fn is_blind(list: &[u8], signals: usize, piece: &[u8], n: usize) -> bool
     ensures { λ r. ⌜ r ≡ isBlind (now (list .entry)) signals (now (piece .entry)) n ⌝ }
 {
@@ -57,7 +57,7 @@ pub(crate) fn put_blind(
     piece: &[u8],
 ) -> usize
     ensures { λ r. ⌜ (r, now (out .exit)) ≡ putText (at, now (out .entry))
-        (blindText (now (list .entry)) signals (now (piece .entry))) ⌝ }
+        (blindText (isBlind (now (list .entry)) signals (now (piece .entry)))) ⌝ }
 {
     if some_blind(list, signals, piece) {
         let numbers = put_text(out, at, b" blind ");

@@ -25,12 +25,11 @@ returns c =
     let numbers = c .before .before in
     let text = numbers .before .before .before .before in
     let test = text .before .before .before in
-    blind-some _ _ _ _ _ (test .before .some-blind .ensures) _ _ (test .if1 .taken) (text .put-text .ensures)
+    blind-some _ _ _ (test .before .some-blind .ensures) _ _ (test .if1 .taken) (text .put-text .ensures)
     (numbers .put-numbers .ensures)
 
 returns-2 : tie.Need-returns-2
-returns-2 c =
-    blind-none _ _ _ _ _ (c .before .some-blind .ensures) (c .if1 .left)
+returns-2 c = blind-none _ _ _ (c .before .some-blind .ensures) (c .if1 .left)
 
 pub put-blind-spec : {M : Type 1} → statement M
 put-blind-spec =
