@@ -83,41 +83,34 @@ unfolding askText
 ask-short (end.Closed v) = omega (arith, verdict-short v)
 ask-short (end.Refused r) = lit≤ tt
 
--- of the numbers below n, those below 10 have a comma and a digit at most, the others a digit more
+-- a number below 10 has one digit, the others below 100 one more
+digits-step : (k : ℕ) → k < 100 → length (decimal k) + (k - 10) ≤ 1 + (suc k - 10)
+digits-step k h = go (less-or-not k 10)
+  where
+    go : (k < 10) ⊎ (10 ≤ k) → length (decimal k) + (k - 10) ≤ 1 + (suc k - 10)
+    go (inl l) = omega (arith, decimal-short 0 k l)
+    go (inr l) = omega (arith, decimal-short 1 k (omega arith))
+
 numbers-short : (test : ℕ → Bool) (n : ℕ) → n ≤ 100 → length (numbersText test n) ≤ 2 * n + (n - 10)
 unfolding numbersText
 numbers-short test zero h = lit≤ tt
-numbers-short test (suc k) h = go (less-or-not k 10) (numbers-short test k (omega arith))
-  where
-    go : (k < 10) ⊎ (10 ≤ k) → length (numbersText test k) ≤ 2 * k + (k - 10)
-        → length (numbersText test k ++ listedText (test k) (some k test) k) ≤ 2 * suc k + (suc k - 10)
-    go (inl l) s =
-        omega (
-          arith,
-          s,
-          length-append (numbersText test k) (listedText (test k) (some k test) k),
-          listed-short (test k) (some k test) k,
-          decimal-short 0 k l,
-        )
-    go (inr l) s =
-        omega (
-          arith,
-          s,
-          length-append (numbersText test k) (listedText (test k) (some k test) k),
-          listed-short (test k) (some k test) k,
-          decimal-short 1 k (omega arith),
-        )
+numbers-short test (suc k) h =
+    omega (
+      arith,
+      numbers-short test k (omega arith),
+      length-append (numbersText test k) (listedText (test k) (some k test) k),
+      listed-short (test k) (some k test) k,
+      digits-step k (omega arith),
+    )
 
 blind-short : (list : List ℕ) (signals : ℕ) (piece : List ℕ) → length (blindText list signals piece) ≤ 45
 unfolding blindText
-blind-short list signals piece =
-    go (some mostSignals (isBlind list signals piece)) (numbers-short (isBlind list signals piece) mostSignals (lit≤ tt))
+blind-short list signals piece = go (isBlind list signals piece) (some mostSignals (isBlind list signals piece))
   where
-    go : (b : Bool) → length (numbersText (isBlind list signals piece) mostSignals) ≤ 38
-        → length (cond b ((space ∷ 98 ∷ 108 ∷ 105 ∷ 110 ∷ 100 ∷ space ∷ [])
-        ++ numbersText (isBlind list signals piece) mostSignals) []) ≤ 45
-    go true s = omega (arith, s)
-    go false s = lit≤ tt
+    go : (test : ℕ → Bool) (b : Bool)
+        → length (cond b ((space ∷ 98 ∷ 108 ∷ 105 ∷ 110 ∷ 100 ∷ space ∷ []) ++ numbersText test mostSignals) []) ≤ 45
+    go test true = omega (arith, numbers-short test mostSignals (lit≤ tt))
+    go test false = lit≤ tt
 
 behind-short : (piece : List ℕ) (more : Bool) (w : Watcher) (ws : List ℕ) → length (behindText piece more w ws) ≤ 57
 unfolding behindText
