@@ -21,7 +21,8 @@ pub row-done : (row : List ℕ) (k n : ℕ) (o p q : ℕ × List ℕ) (any : Boo
     → p ≡ putText o (numbersText (bitAt row) k) → q ≡ putText p (noneText any)
     → q ≡ putText o (numbersText (bitAt row) n ++ noneText (some n (bitAt row)))
 row-done row k n o p q any e f h l =
-    text-then o p q (numbersText (bitAt row) k) (noneText (some k (bitAt row))) h (l ∙ ap (λ b. putText p (noneText b)) f)
+    text-then o p q (numbersText (bitAt row) k) (noneText (some k (bitAt row))) h
+    (l ∙ ap (λ b. putText p (noneText b)) f)
     ∙ ap (λ x. putText o (numbersText (bitAt row) x ++ noneText (some x (bitAt row)))) e
 
 -- how many past rows a state has
