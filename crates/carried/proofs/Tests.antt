@@ -70,7 +70,7 @@ module _ (signals : List ℕ) (number : ℕ) (piece : List ℕ) where
 
 module _ (f : Exports) (right : MeetsExports f) where
   pub tests-are-carried : TestsAreCarried f
-  tests-are-carried signals number piece s b =
+  tests-are-carried signals number piece s l b =
       record {
         refused = λ n given. is ∙ refused-code signals number piece n given;
         one = λ none. one-at (code none);
@@ -90,7 +90,7 @@ module _ (f : Exports) (right : MeetsExports f) where
       t = testOf signals (recordsOf signals) piece number
 
       is : f .test signals number piece ≡ testBytes signals number piece
-      is = right .tests signals number piece s b
+      is = right .tests signals number piece s l b
 
       code : NoneHolds (testTable signals number piece) → f .test signals number piece ≡ testCode t
       code none = is ∙ told-code signals number piece none

@@ -3,7 +3,7 @@ use mathlib.Core.Path.{_≡_}
 use mathlib.Core.Bool.{true}
 use mathlib.Core.Logic.{_↔_}
 use mathlib.Core.List.{List, [], _∷_}
-use Prim.Native.Nat.{ℕ}
+use Prim.Native.Nat.{ℕ, _^_, _<_}
 use lib.Dec.{leb}
 use Rattle.meaning.specs.Rule.{holds}
 use Rattle.watcher.specs.Rules.{recordsOf}
@@ -33,5 +33,5 @@ pub record Tests (f : Exports) (signals : List ℕ) (number : ℕ) (piece : List
 
 abbrev pub TestsAreCarried : Exports → Type 0
 TestsAreCarried f =
-    (signals : List ℕ) (number : ℕ) (piece : List ℕ) → MachineBytes signals → MachineBytes piece
+    (signals : List ℕ) (number : ℕ) (piece : List ℕ) → MachineBytes signals → number < 2 ^ 64 → MachineBytes piece
     → Tests f signals number piece

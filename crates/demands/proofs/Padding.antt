@@ -83,7 +83,7 @@ module _ (list : List ℕ) (short : length list ≤ listBytes) where
   unfolding limitOf
   by-padded bytes n = rw (byte-padded n 0, byte-padded n 1, little-padded (8 * n + 2) 2)
 
-  test-padded : (bytes : List ℕ) (n : ℕ)
+  pub test-padded : (bytes : List ℕ) (n : ℕ)
       → testOf (padded list) (recordsOf list) bytes n ≡ testOf list (recordsOf list) bytes n
   test-padded bytes n = ⊎-elim within past (less-or-not n (recordsOf list))
     where

@@ -1,30 +1,31 @@
 -- Signals are read by their tests: one answer, none where there is no reading, and exact speeds.
 -- Assumes nothing.
 use mathlib.Core.Path.{_≡_, refl, sym, ap, ap₂, _∙_}
-use mathlib.Core.Bool.{Bool, true, false, not, cond, true≢false}
+use mathlib.Core.Bool.{Bool, true, false, not, _&&_, cond, true≢false}
 use mathlib.Core.Logic.{_⊎_, inl, inr, ⊎-elim}
 use mathlib.Core.List.{List}
-use Prim.Native.Nat.{ℕ, suc, _-_}
+use Prim.Native.Nat.{ℕ, zero, suc, _+_, _-_, _≤_, _<_}
 use native.Mathlib.Omega.{arith}
-use lib.Dec.{eqb, ltb}
+use lib.Dec.{eqb, leb, ltb}
 use lib.IntN.{ℤ, pos, negsuc}
+use lib.Signed.{leZ}
+use lib.ListN.{length, getD}
 use mir.Val.{sel}
-use borrow.Author.Tests.{le-leb, eq-eqb, ne-eqb, eqb-true, eqb-false, not-false}
+use borrow.Author.Tests.{eq-eqb, ne-eqb, eqb-true, eqb-false, not-false}
 use Rattle.ground.specs.Bytes.{little}
-use Rattle.ground.proofs.Folds.{less-or-not}
+use Rattle.ground.proofs.Folds.{fold-cong}
 use Rattle.meaning.specs.Rule.{holds}
 use Rattle.rewriting.specs.Decode.{byteOf}
 use Rattle.watcher.specs.declared.readings.Tested.{Tested}
 use Rattle.watcher.specs.declared.readings.Tested.the-variants.{Holds, DoesNotHold, NoReading}
-use Rattle.watcher.specs.Rules.{recordsOf}
 use Rattle.watcher.specs.Signals.{limitOf}
-use Rattle.watcher.specs.Records.{temperatureOf, windOf, meets, hasReading, answered, testBy, lacks, testOf}
+use Rattle.watcher.specs.Records.{wrongRecord, temperatureOf, windOf, meets, hasReading, answered, testBy, lacks, testOf}
 use Rattle.watcher.specs.Records.{isHolding, entryOf}
-use Rattle.watcher.proofs.Channels.{channel-wind}
-use Rattle.watcher.proofs.Tests.{reads-air, reads-wind, reads-other, test-none, lacks-past, lacks-records, lacks-most}
+use Rattle.watcher.proofs.Channels.{channel-air, channel-wind, channel-lee, channel-windward, channel-rain}
+use Rattle.watcher.proofs.Tests.{reads-air, reads-wind, reads-other, test-none, lacks-or}
 use Rattle.watcher.proofs.Tests.{test-lacking, test-here, word-bit}
 use Rattle.watcher.proofs.Speed.{wind-exact}
-use Rattle.demands.specs.Signals.{Listed, Blind, ExactlyOne, SignalsAreTested, WindIsExact}
+use Rattle.demands.specs.Signals.{Listed, Blind, asked, ExactlyOne, SignalsAreTested, WindIsExact}
 
 -- an answer is one of the three, and no two are the same
 number : Tested → ℕ
@@ -118,12 +119,14 @@ module _ (list : List ℕ) (count : ℕ) (bytes : List ℕ) (n : ℕ) (here : Li
   met : Bool
   met = meets bytes (byteOf list n 0) (limitOf list n)
 
-  tested-read : hasReading bytes (byteOf list n 0) ≡ true
-      → testOf list count bytes n ≡ answered (cond (eqb (byteOf list n 1) 0) met (not met))
+  tested-read : hasReading bytes (byteOf list n 0) ≡ true → testOf list count bytes n ≡ asked list n met
   unfolding testBy met
-  tested-read r =
-      sym tested-by
-      ∙ ap (λ b. cond b (answered (cond (eqb (byteOf list n 1) 0) met (not met))) NoReading) r
+  tested-read r = sym tested-by ∙ ap (λ b. cond b (asked list n met) NoReading) r
+
+  tested-as : (b : Bool) → (Blind list n bytes → ⊥) → b ≡ meets bytes (byteOf list n 0) (limitOf list n)
+      → testOf list count bytes n ≡ asked list n b
+  unfolding met
+  tested-as b s e = tested-read (has s) ∙ ap (asked list n) (sym e)
 
   none-told : testOf list count bytes n ≡ NoReading → Blind list n bytes
   none-told e = go (hasReading bytes (byteOf list n 0)) refl
@@ -156,24 +159,53 @@ blind-both list bytes i j e (inr (c, w)) = inr (sym e ∙ c, w)
 -- a signal that is not listed is lacking
 missing : (list : List ℕ) (count n : ℕ) → (Listed list count n → ⊥) → lacks list count n ≡ true
 missing list count n s =
-    ⊎-elim
-    (λ h.
-    ⊎-elim
-    (λ l.
-    ⊎-elim (λ k. absurd (s (record { counted = h; written = l; fits = k })))
-    (λ k. sym (lacks-most list count n h l) ∙ le-leb 16 n k) (less-or-not n 16))
-    (λ l. sym (lacks-records list count n h l)) (less-or-not n (recordsOf list)))
-    (λ h. sym (lacks-past list count n h)) (less-or-not n count)
+    ⊎-elim (λ l. l) (λ h. absurd (s (record { counted = h .0; written = h .1; fits = h .2 }))) (lacks-or list count n)
+
+-- who is not blind, and what a vent or the rain is compared with
+module _ (list : List ℕ) (n : ℕ) (bytes : List ℕ) where
+  not-marked : byteOf list n 0 ≡ 1 → (temperatureOf bytes ≡ pos 32767 → ⊥) → Blind list n bytes → ⊥
+  not-marked air s (inl (c, t)) = s t
+  not-marked air s (inr (c, w)) = omega arith
+
+  never-blind : (i : ℕ) → byteOf list n 0 ≡ 3 + i → Blind list n bytes → ⊥
+  never-blind i other (inl (c, t)) = omega arith
+  never-blind i other (inr (c, w)) = omega arith
+
+  other-met : (i : ℕ) → i < 3 → byteOf list n 0 ≡ 3 + i
+      → leZ (limitOf list n) (pos (getD bytes (8 + i) 0)) ≡ meets bytes (byteOf list n 0) (limitOf list n)
+  other-met zero h other = channel-lee bytes _ _ other
+  other-met (suc zero) h other = channel-windward bytes _ _ other
+  other-met (suc (suc zero)) h other =
+      channel-rain bytes _ _ (λ e. omega arith) (λ e. omega arith) (λ e. omega arith) (λ e. omega arith)
+  other-met (suc (suc (suc i))) h other = let z : ⊥ = omega arith in absurd z
+
+-- a record is laid out right or wrong by its length and what stands from byte 8 on
+taken-alike : (bytes others : List ℕ) → length bytes ≡ length others
+    → ((i : ℕ) → 8 ≤ i → getD bytes i 0 ≡ getD others i 0) → wrongRecord bytes ≡ wrongRecord others
+unfolding wrongRecord
+taken-alike bytes others l same =
+    rw (l, same 8 (omega arith), same 9 (omega arith), same 10 (omega arith), same 11 (omega arith))
+    (ap (λ b. not (eqb (length others) 16 && leb (getD others 8 0) 100 && leb (getD others 9 0) 100
+    && leb (getD others 10 0) 1 && leb (getD others 11 0) 1 && b))
+    (fold-cong _&&_ true 4 _ _ (λ i h. ap (λ x. eqb x 0) (same (12 + i) (omega arith)))))
 
 pub signals-are-tested : SignalsAreTested
-unfolding holds entryOf met
+unfolding holds entryOf met temperatureOf
 signals-are-tested =
     record {
+      taken = taken-alike;
       seen = word-bit;
       one = λ list count bytes n. exactly-one (testOf list count bytes n);
       lacks = λ list count bytes n s. sym (test-lacking list count bytes n (missing list count n s));
       blind =
           λ list count bytes n here. (none-told list count bytes n here, tested-blind list count bytes n here);
+      air =
+          λ list count bytes n here air s.
+          tested-as list count bytes n here _ (not-marked list n bytes air s)
+          (channel-air bytes (byteOf list n 0) (limitOf list n) air);
+      others =
+          λ list count bytes n i here h other.
+          tested-as list count bytes n here _ (never-blind list n bytes i other) (other-met list n bytes i h other);
       opposite =
           λ list count bytes i j o s.
           word-bit list count bytes j
@@ -192,12 +224,10 @@ signals-are-tested =
     }
 
 pub wind-is-exact : WindIsExact
-unfolding met
 wind-is-exact list count bytes n here wind s =
-    tested-read list count bytes n here (has list count bytes n here (not-blind s))
-    ∙ ap (λ b. answered (cond (eqb (byteOf list n 1) 0) b (not b)))
-    (sym (channel-wind bytes (byteOf list n 0) (limitOf list n) wind) ∙ wind-exact bytes (limitOf list n))
+    tested-as list count bytes n here _ not-blind
+    (sym (wind-exact bytes (limitOf list n)) ∙ channel-wind bytes (byteOf list n 0) (limitOf list n) wind)
   where
-    not-blind : (windOf bytes ≡ 65535 → ⊥) → Blind list n bytes → ⊥
-    not-blind s (inl (c, t)) = let z : ⊥ = omega arith in z
-    not-blind s (inr (c, w)) = s w
+    not-blind : Blind list n bytes → ⊥
+    not-blind (inl (c, t)) = omega arith
+    not-blind (inr (c, w)) = s w

@@ -78,15 +78,18 @@ abbrev pub windRecord : (unit wind : ℕ) → List ℕ
 windRecord unit wind =
     0 ∷ 0 ∷ 0 ∷ 0 ∷ 0 ∷ 0 ∷ wind % 256 ∷ wind / 256 ∷ 0 ∷ 0 ∷ 0 ∷ unit ∷ 0 ∷ 0 ∷ 0 ∷ 0 ∷ []
 
--- the air temperature is at least, or below, a limit in 16 bits with a sign; the wind is below a limit; it rains
+-- a signal of a channel, "at least" (0) or "below" (1) a limit in 16 bits with a sign
+abbrev pub signalOf : (channel sense limit : ℕ) → List ℕ
+signalOf channel sense limit = channel ∷ sense ∷ limit % 256 ∷ limit / 256 ∷ 0 ∷ 0 ∷ 0 ∷ 0 ∷ []
+
 abbrev pub temperature : (sense limit : ℕ) → List ℕ
-temperature sense limit = 1 ∷ sense ∷ limit % 256 ∷ limit / 256 ∷ 0 ∷ 0 ∷ 0 ∷ 0 ∷ []
+temperature sense limit = signalOf 1 sense limit
 
 abbrev pub windBelow : (limit : ℕ) → List ℕ
-windBelow limit = 2 ∷ 1 ∷ limit ∷ 0 ∷ 0 ∷ 0 ∷ 0 ∷ 0 ∷ []
+windBelow limit = signalOf 2 1 limit
 
 abbrev pub raining : List ℕ
-raining = 5 ∷ 0 ∷ 1 ∷ 0 ∷ 0 ∷ 0 ∷ 0 ∷ 0 ∷ []
+raining = signalOf 5 0 1
 
 -- a log record with a temperature in 16 bits, and with rain
 abbrev pub airRecord : (reading rain : ℕ) → List ℕ
