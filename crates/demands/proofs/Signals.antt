@@ -19,8 +19,8 @@ use Rattle.rewriting.specs.Decode.{byteOf}
 use Rattle.watcher.specs.declared.readings.Tested.{Tested}
 use Rattle.watcher.specs.declared.readings.Tested.the-variants.{Holds, DoesNotHold, NoReading}
 use Rattle.watcher.specs.Signals.{limitOf}
-use Rattle.watcher.specs.Records.{wrongRecord, temperatureOf, windOf, meets, hasReading, answered, testBy, lacks, testOf}
-use Rattle.watcher.specs.Records.{isHolding, entryOf}
+use Rattle.watcher.specs.Records.{wrongRecord, temperatureOf, windOf, meets, hasReading, answered, testBy, lacks}
+use Rattle.watcher.specs.Records.{testOf, isHolding, entryOf}
 use Rattle.watcher.proofs.Channels.{channel-air, channel-wind, channel-lee, channel-windward, channel-rain}
 use Rattle.watcher.proofs.Tests.{reads-air, reads-wind, reads-other, test-none, lacks-or}
 use Rattle.watcher.proofs.Tests.{test-lacking, test-here, word-bit}
