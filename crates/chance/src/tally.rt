@@ -1,24 +1,25 @@
-// How often each answer came: words, closings, asks, horizons and refusals, and how many answers were not the wanted
-// ones.
-use crate::answers::letters::number_letter;
+// How often each answer came: words, closings, asks, horizons, tests of signals and refusals, and how many answers were
+// not the wanted ones.
 use crate::answers::print::number;
 use crate::answers::print::text;
 use ground::bytes::byte;
 
-// Places of the tally. A word's, an ask's and a refusal's is its letter; 0 is no letter.
+// Places of the tally, a letter each. A word's, an ask's, a test's and a refusal's is its letter.
 pub(crate) const PLACES: usize = 128;
 
-const DECIDED: u8 = 1;
+const DECIDED: u8 = b'D';
 
-const CLOSED_KEPT: u8 = 2;
+const CLOSED_KEPT: u8 = b'C';
 
-const CLOSED_BROKEN: u8 = 3;
+const CLOSED_BROKEN: u8 = b'X';
 
-const HORIZON: u8 = 4;
+const HORIZON: u8 = b'H';
 
-const NO_HORIZON: u8 = 5;
+const NO_HORIZON: u8 = b'N';
 
-pub(crate) const DIFFERENCES: u8 = 6;
+pub(crate) const NOT_LISTED: u8 = b'L';
+
+pub(crate) const DIFFERENCES: u8 = b'Z';
 
 // Counts one more at a place.
 pub(crate) fn count(tally: &mut [u64], place: u8) {
@@ -69,46 +70,66 @@ pub(crate) fn count_letters(tally: &mut [u64], said: &[u8]) {
     }
 }
 
-// Writes a line of the tally.
-fn line(name: &[u8], tally: &[u64], place: u8) {
+// Writes the count at a place.
+fn put_count(tally: &[u64], place: u8) {
     let at = place as usize;
-    text(name);
-    text(b" ");
     if at < tally.len() {
         number(tally[at]);
     }
-    text(b"\n");
 }
 
-// Writes the lines of words, closings, asks and horizons.
-fn answer_lines(tally: &[u64]) {
-    line(b"kept", tally, b'K');
-    line(b"broken", tally, b'B');
-    line(b"pending", tally, b'P');
-    line(b"decided before the end", tally, DECIDED);
-    line(b"closed kept", tally, CLOSED_KEPT);
-    line(b"closed broken", tally, CLOSED_BROKEN);
-    line(b"asked kept", tally, b'y');
-    line(b"asked broken", tally, b'n');
-    line(b"with a horizon", tally, HORIZON);
-    line(b"without a horizon", tally, NO_HORIZON);
-}
-
-// Writes the line of a refusal by its number; lists and logs bring up no 7.
-fn refusal_line(tally: &[u64], refusal: usize) {
-    if refusal == 7 {
+// Writes a character of the lines behind another: an equals sign as a blank, and the letter behind it as the count.
+fn put_behind(tally: &[u64], before: u8, character: u8) {
+    if before == b'=' {
+        put_count(tally, character);
         return;
     }
-    text(b"refused ");
-    number(refusal as u64);
-    line(b"", tally, number_letter(refusal));
+    if character == b'=' {
+        text(b" ");
+    } else {
+        text(&[character]);
+    }
 }
 
-// Writes the whole tally.
-pub(crate) fn tally_lines(tally: &[u64]) {
-    answer_lines(tally);
-    for refusal in 1..12usize {
-        refusal_line(tally, refusal);
+// Writes lines of the tally, each a name, an equals sign and a place.
+fn lines(tally: &[u64], names: &[u8]) {
+    let mut before = 0;
+    for place in 0..names.len() {
+        let character = byte(names, place);
+        put_behind(tally, before, character);
+        before = character;
     }
-    line(b"differences", tally, DIFFERENCES);
+}
+
+// Writes the whole tally; lists and logs bring up no refusal 7.
+pub(crate) fn tally_lines(tally: &[u64]) {
+    lines(
+        tally,
+        b"kept=K
+broken=B
+pending=P
+decided before the end=D
+closed kept=C
+closed broken=X
+asked kept=y
+asked broken=n
+with a horizon=H
+without a horizon=N
+tests that hold=+
+tests that do not hold=-
+tests with no reading=?
+tests of a signal past the list=L
+refused 1=1
+refused 2=2
+refused 3=3
+refused 4=4
+refused 5=5
+refused 6=6
+refused 8=8
+refused 9=9
+refused 10=a
+refused 11=b
+differences=Z
+",
+    );
 }

@@ -1,17 +1,18 @@
 // The watcher's answers as letters: K, B and P for words, two letters that are given for verdicts, a hexadecimal digit
-// for a refusal.
+// for a refusal, +, - and ? for tests.
+use watcher::readings::Tested;
 use watcher::state::Answer;
 use watcher::state::End;
 use watcher::state::Verdict;
 use watcher::state::Word;
 
-// The digit of a number; a question mark where it has none.
+// The digit of a number; a hash where it has none.
 pub(crate) fn number_letter(number: usize) -> u8 {
     let digits = b"0123456789abcdef";
     if number < digits.len() {
         digits[number]
     } else {
-        b'?'
+        b'#'
     }
 }
 
@@ -38,5 +39,14 @@ pub(crate) fn end_letter(end: End, kept: u8, broken: u8) -> u8 {
             Verdict::Broken => broken,
         },
         End::Refused(refusal) => number_letter(refusal.number()),
+    }
+}
+
+// The letter of a test: it holds, it does not, or there is no reading.
+pub(crate) fn test_letter(tested: Tested) -> u8 {
+    match tested {
+        Tested::Holds => b'+',
+        Tested::DoesNotHold => b'-',
+        Tested::NoReading => b'?',
     }
 }

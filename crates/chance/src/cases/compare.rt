@@ -5,6 +5,7 @@ use crate::answers::print::text;
 use crate::answers::watch::horizon_said;
 use crate::answers::watch::run;
 use crate::cases::agree::agree;
+use crate::cases::tests::compare_tests;
 use crate::judge::bytes::first;
 use crate::judge::letters::wanted;
 use crate::judge::lists::lists_refusal;
@@ -57,6 +58,7 @@ fn compare(rule: &[u8], signals: &[u8], log: &[u8], area: &mut [u64], tally: &mu
     wanted(rule, signals, log, &mut mine);
     settle(rule, signals, log, &said, &mine, tally);
     compare_horizon(rule, signals, area, tally);
+    compare_tests(rule, signals, log, tally);
 }
 
 // Makes one case by chance and compares it.

@@ -1,7 +1,8 @@
-// Log records: refusals 8 and 9, and the signals that hold, from document 01's words.
+// Log records: refusal 8, their time, and tests of signals, from the words of documents 01 and 02.
 use crate::judge::bytes::at;
 use crate::judge::bytes::four;
 use crate::judge::bytes::part;
+use crate::judge::bytes::pieces;
 use crate::judge::bytes::two;
 ghost use Prim.Native.Nat.{_<_};
 
@@ -66,6 +67,37 @@ fn reaches(record: &[u8], channel: u64, limit: u64) -> bool
     }
 }
 
+// Whether a channel has no reading in a record: 32767 is none as a temperature, and 65535 none as a wind.
+fn is_silent(record: &[u8], channel: u64) -> bool {
+    match channel {
+        1 => two(record, 4) == 32767,
+        2 => two(record, 6) == 65535,
+        _ => false,
+    }
+}
+
+// The letter of a test of a signal record in a log record: + where it holds, - where it does not, ? with no reading.
+fn answer(signal: &[u8], record: &[u8]) -> u8 {
+    let channel = at(signal, 0);
+    if is_silent(record, channel) {
+        return b'?';
+    }
+    let reached = reaches(record, channel, lifted(signal, 2));
+    if reached == (at(signal, 1) == 0) {
+        b'+'
+    } else {
+        b'-'
+    }
+}
+
+// The letter of a test of signal n in a record; what the list does not define does not hold.
+pub(crate) fn test(signals: &[u8], n: usize, record: &[u8]) -> u8 {
+    if pieces(signals, 8, 16) <= n {
+        return b'-';
+    }
+    answer(part(signals, 8 * n, 8), record)
+}
+
 // Whether signal n holds in record i of a log.
 pub(crate) fn holds(signals: &[u8], n: u64, log: &[u8], i: usize) -> bool {
     if 16 <= n {
@@ -74,11 +106,5 @@ pub(crate) fn holds(signals: &[u8], n: u64, log: &[u8], i: usize) -> bool {
     if 50 <= i {
         return false;
     }
-    let signal = part(signals, 8 * n as usize, 8);
-    let reached = reaches(part(log, 16 * i, 16), at(signal, 0), lifted(signal, 2));
-    if at(signal, 1) == 0 {
-        reached
-    } else {
-        !reached
-    }
+    test(signals, n as usize, part(log, 16 * i, 16)) == b'+'
 }

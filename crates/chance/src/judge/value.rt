@@ -5,6 +5,7 @@ use crate::judge::bytes::put;
 use crate::judge::lists::field;
 use crate::judge::reading::holds;
 use crate::judge::reading::time;
+ghost use Prim.Native.Nat.{_<_};
 
 // Whether rule record k holds at log record i, from the table of what was found: 12 places for each rule record.
 fn held(table: &[u8], k: u64, i: usize) -> bool {
@@ -17,14 +18,14 @@ fn held(table: &[u8], k: u64, i: usize) -> bool {
     byte(table, 12 * k as usize + i) == 1
 }
 
-// The minutes from log record i to log record j.
+// The minutes between two log records, whichever comes first.
 pub(crate) fn minutes(log: &[u8], i: usize, j: usize) -> u64 {
-    let from = time(log, i);
-    let to = time(log, j);
-    if to < from {
-        return 0;
+    let one = time(log, i);
+    let other = time(log, j);
+    if other < one {
+        return one - other;
     }
-    to - from
+    other - one
 }
 
 // Whether so many minutes are in the interval of rule record k.
@@ -49,86 +50,31 @@ fn every(table: &[u8], k: u64, from: usize, to: usize) -> bool {
     true
 }
 
-// Whether log record j follows log record i in the interval of rule record k, and has its left.
-fn joined(
-    rule: &[u8],
-    log: &[u8],
-    table: &[u8],
-    k: usize,
-    i: usize,
-    j: usize,
-    side: usize,
-) -> bool {
-    let left = field(rule, k, 1);
-    if !held(table, left, side) {
-        return false;
-    }
-    inside(rule, k, minutes(log, i, j))
-}
-
-// Next of rule record k at log record i.
-fn next_holds(rule: &[u8], log: &[u8], table: &[u8], k: usize, i: usize) -> bool {
-    if 50 <= i {
-        return false;
-    }
-    if pieces(log, 16, 12) <= i + 1 {
-        return false;
-    }
-    joined(rule, log, table, k, i, i + 1, i + 1)
-}
-
-// Previous of rule record k at log record i.
-fn previous_holds(rule: &[u8], log: &[u8], table: &[u8], k: usize, i: usize) -> bool {
-    if i == 0 {
-        return false;
-    }
-    joined(rule, log, table, k, i - 1, i, i - 1)
-}
-
-// Whether log record j shows that until holds at log record i.
-fn until_by(rule: &[u8], log: &[u8], table: &[u8], k: usize, i: usize, j: usize) -> bool {
-    if !held(table, field(rule, k, 2), j) {
-        return false;
-    }
+// Whether log record j shows that rule record k, which looks ahead or back, holds at log record i.
+fn shown_by(rule: &[u8], log: &[u8], table: &[u8], k: usize, i: usize, j: usize) -> bool
+    requires { ⌜ (i < 12) × (j < 12) ⌝ }
+{
     if !inside(rule, k, minutes(log, i, j)) {
         return false;
     }
-    every(table, field(rule, k, 1), i, j)
+    let kind = field(rule, k, 0);
+    let left = field(rule, k, 1);
+    let right = field(rule, k, 2);
+    match kind {
+        6 => i + 1 == j && held(table, left, j),
+        7 => i <= j && held(table, right, j) && every(table, left, i, j),
+        8 => j + 1 == i && held(table, left, j),
+        _ => j <= i && held(table, right, j) && every(table, left, j + 1, i + 1),
+    }
 }
 
-// Until of rule record k at log record i.
-fn until_holds(rule: &[u8], log: &[u8], table: &[u8], k: usize, i: usize) -> bool {
-    let records = pieces(log, 16, 12);
-    for j in i..records {
-        if until_by(rule, log, table, k, i, j) {
-            return true;
-        }
-    }
-    false
-}
-
-// Whether log record j shows that since holds at log record i.
-fn since_by(rule: &[u8], log: &[u8], table: &[u8], k: usize, i: usize, j: usize) -> bool {
-    if i < j {
-        return false;
-    }
-    if 50 <= i {
-        return false;
-    }
-    if !held(table, field(rule, k, 2), j) {
-        return false;
-    }
-    if !inside(rule, k, minutes(log, j, i)) {
-        return false;
-    }
-    every(table, field(rule, k, 1), j + 1, i + 1)
-}
-
-// Since of rule record k at log record i.
-fn since_holds(rule: &[u8], log: &[u8], table: &[u8], k: usize, i: usize) -> bool {
+// Whether some log record shows it.
+fn shown(rule: &[u8], log: &[u8], table: &[u8], k: usize, i: usize) -> bool
+    requires { ⌜ i < 12 ⌝ }
+{
     let records = pieces(log, 16, 12);
     for j in 0..records {
-        if since_by(rule, log, table, k, i, j) {
+        if shown_by(rule, log, table, k, i, j) {
             return true;
         }
     }
@@ -136,7 +82,9 @@ fn since_holds(rule: &[u8], log: &[u8], table: &[u8], k: usize, i: usize) -> boo
 }
 
 // Whether rule record k holds at log record i.
-fn record_holds(rule: &[u8], signals: &[u8], log: &[u8], table: &[u8], k: usize, i: usize) -> bool {
+fn record_holds(rule: &[u8], signals: &[u8], log: &[u8], table: &[u8], k: usize, i: usize) -> bool
+    requires { ⌜ i < 12 ⌝ }
+{
     let kind = field(rule, k, 0);
     let left = field(rule, k, 1);
     let right = field(rule, k, 2);
@@ -146,10 +94,7 @@ fn record_holds(rule: &[u8], signals: &[u8], log: &[u8], table: &[u8], k: usize,
         3 => holds(signals, left, log, i),
         4 => held(table, left, i) && held(table, right, i),
         5 => held(table, left, i) != held(table, right, i),
-        6 => next_holds(rule, log, table, k, i),
-        7 => until_holds(rule, log, table, k, i),
-        8 => previous_holds(rule, log, table, k, i),
-        _ => since_holds(rule, log, table, k, i),
+        _ => shown(rule, log, table, k, i),
     }
 }
 

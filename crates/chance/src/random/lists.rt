@@ -130,12 +130,15 @@ pub(crate) fn random_rule(seed: &mut u64, rule: &mut [u8]) -> usize {
     length(seed, 8 * count)
 }
 
-// A limit, half of the time one that a wind in km/h can meet exactly.
+// A limit: half of the time one that a wind in km/h can meet exactly, and now and then the highest or the lowest.
 fn limit(seed: &mut u64) -> u64 {
-    if seldom(seed, 2) {
-        return roll(seed, 3) % 3 * 5;
+    let face = roll(seed, 16);
+    match face {
+        0 => 32767,
+        1 => 32768,
+        2..=8 => roll(seed, 3) % 3 * 5,
+        _ => small(seed),
     }
-    small(seed)
 }
 
 // Writes signal record n.

@@ -9,13 +9,28 @@ use crate::random::dice::roll_byte;
 use crate::random::dice::seldom;
 use crate::random::dice::small;
 
-// A wind, mostly one that meets such a limit exactly in one of the units.
-fn strength(seed: &mut u64) -> u64 {
+// A temperature: mostly a small one, and now and then none, one just beside none, or the lowest.
+fn temperature(seed: &mut u64) -> u64 {
     let face = roll(seed, 16);
     match face {
+        0 | 1 => 32767,
+        2 => 32766,
+        3 => 32768,
+        _ => small(seed),
+    }
+}
+
+// A wind: mostly one that meets a limit exactly in one of the units, and now and then none, one just below none, or
+// the number that is no temperature.
+fn strength(seed: &mut u64) -> u64 {
+    let face = roll(seed, 20);
+    match face {
         0 => roll(seed, 65536),
-        1..=4 => roll(seed, 40),
-        5..=8 => roll(seed, 3) % 3 * 5,
+        1 | 2 => 65535,
+        3 => 65534,
+        4 => 32767,
+        5..=8 => roll(seed, 40),
+        9..=12 => roll(seed, 3) % 3 * 5,
         _ => roll(seed, 3) % 3 * 18,
     }
 }
@@ -30,7 +45,7 @@ fn later(seed: &mut u64, time: u64) -> u64 {
 
 // Writes temperature and wind of a log record.
 fn weather(seed: &mut u64, log: &mut [u8], start: usize) {
-    put_two(log, start, 4, small(seed));
+    put_two(log, start, 4, temperature(seed));
     let wind = strength(seed);
     put_wind(log, start, wind, roll_byte(seed, 2));
 }
