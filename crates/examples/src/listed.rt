@@ -44,15 +44,20 @@ fn b(name: &[u8], steps: &[u8], wanted: &[u8], area: &mut [u64]) {
     tell(name, vents(&rule, steps, wanted, area));
 }
 
-// Runs one record of wind against limit 120, in km/h (unit 0) or m/s (unit 1).
-fn wind(strength: u64, unit: u8, wanted: &[u8], area: &mut [u64]) -> bool {
+// Runs the rule that is signal 0.
+pub(crate) fn signal_runs(signals: &[u8], log: &[u8], wanted: &[u8], area: &mut [u64]) -> bool {
     let mut rule = [0u8; 8];
     put_rule(&mut rule, 0, 3, 0, 0);
+    runs(&rule, signals, log, wanted, area)
+}
+
+// Runs one record of wind against limit 120, in km/h (unit 0) or m/s (unit 1).
+fn wind(strength: u64, unit: u8, wanted: &[u8], area: &mut [u64]) -> bool {
     let mut signals = [0u8; 8];
     put_signal(&mut signals, 0, 2, 120);
     let mut log = [0u8; 16];
     put_wind(&mut log, 0, strength, unit);
-    runs(&rule, &signals, &log, wanted, area)
+    signal_runs(&signals, &log, wanted, area)
 }
 
 // Examples 1 to 4.

@@ -2,12 +2,15 @@
 mod answers;
 mod given;
 mod listed;
+mod readings;
 mod told;
 
 use crate::listed::examples;
+use crate::readings::readings;
 use watcher::state::Watcher;
 
 fn main() {
     let mut area = [0u64; Watcher::WORDS];
     examples(&mut area);
+    readings(&mut area);
 }
