@@ -1,11 +1,13 @@
-// How often each answer came: words, closings, asks, horizons, tests of signals and refusals, and how many answers were
-// not the wanted ones.
+// How many cases there were and how often each answer came: words, closings, asks, horizons, tests of signals and
+// refusals; and how many were not the wanted ones.
 use crate::answers::print::number;
 use crate::answers::print::text;
 use ground::bytes::byte;
 
 // Places of the tally, a letter each. A word's, an ask's, a test's and a refusal's is its letter.
 pub(crate) const PLACES: usize = 128;
+
+pub(crate) const CASES: u8 = b'A';
 
 const DECIDED: u8 = b'D';
 
@@ -105,7 +107,8 @@ fn lines(tally: &[u64], names: &[u8]) {
 pub(crate) fn tally_lines(tally: &[u64]) {
     lines(
         tally,
-        b"kept=K
+        b"cases=A
+kept=K
 broken=B
 pending=P
 decided before the end=D

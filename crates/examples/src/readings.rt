@@ -94,8 +94,8 @@ fn air_rows() {
     air(b"air -32768", MINUS_32768, b"-+ -+ +-");
 }
 
-// Wind: 65535 is no reading. In m/s 32767 and 65534 meet every limit, in km/h neither meets 32767, for five times each,
-// 163835 and 327670, is below 18 times that, 589806.
+// Wind: 65535 is no reading. In m/s 32767 and 65534 meet every limit; in km/h neither meets 32767, since five times
+// each, 163835 and 327670, is below 18 times that, 589806.
 fn wind_rows() {
     wind(b"m/s 32766", 32766, MS, b"-+ +- +-");
     wind(b"m/s 32767", 32767, MS, b"+- +- +-");

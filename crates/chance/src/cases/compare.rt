@@ -1,7 +1,5 @@
 // Cases by chance, through the watcher and the second evaluator.
 use crate::answers::print::difference;
-use crate::answers::print::number;
-use crate::answers::print::text;
 use crate::answers::watch::horizon_said;
 use crate::answers::watch::run;
 use crate::cases::agree::agree;
@@ -14,6 +12,7 @@ use crate::judge::reach::horizon;
 use crate::random::lists::random_rule;
 use crate::random::lists::random_signals;
 use crate::random::logs::random_log;
+use crate::tally::CASES;
 use crate::tally::DIFFERENCES;
 use crate::tally::count;
 use crate::tally::count_horizon;
@@ -50,10 +49,11 @@ fn settle(rule: &[u8], signals: &[u8], log: &[u8], said: &[u8], mine: &[u8], tal
     difference(rule, signals, log, said, mine);
 }
 
-// Compares one case.
+// Counts and compares one case.
 fn compare(rule: &[u8], signals: &[u8], log: &[u8], area: &mut [u64], tally: &mut [u64]) {
     let mut said = [0u8; 32];
     let mut mine = [0u8; 32];
+    count(tally, CASES);
     run(rule, signals, log, &mut said, area);
     wanted(rule, signals, log, &mut mine);
     settle(rule, signals, log, &said, &mine, tally);
@@ -78,13 +78,10 @@ fn random_case(seed: &mut u64, area: &mut [u64], tally: &mut [u64]) {
     );
 }
 
-// Compares so many cases, and writes how many they were.
+// Compares so many cases.
 pub(crate) fn random_cases(cases: u64, area: &mut [u64], tally: &mut [u64]) {
     let mut seed = 20031;
     for done in 0..cases {
         random_case(&mut seed, area, tally);
     }
-    text(b"cases ");
-    number(cases);
-    text(b"\n");
 }

@@ -1,9 +1,7 @@
 // Rules and signal lists by chance: mostly right, now and then damaged.
 use crate::judge::bytes::put;
 use crate::made::put_in;
-use crate::made::put_interval;
-use crate::made::put_rule;
-use crate::made::put_signal;
+use crate::made::put_two;
 use crate::random::dice::records;
 use crate::random::dice::roll;
 use crate::random::dice::roll_byte;
@@ -63,7 +61,8 @@ fn interval(seed: &mut u64, rule: &mut [u8], start: usize, kind: u8) {
     let low = low_end(seed);
     let high = low + roll_byte(seed, 3) % 3;
     let end = if seldom(seed, 4) { 255 } else { high };
-    put_interval(rule, start, low, end);
+    put_in(rule, start, 4, low);
+    put_in(rule, start, 5, end);
 }
 
 // What stands left in rule record k: nothing, signal k, or an earlier record.
@@ -89,13 +88,9 @@ fn rule_record(seed: &mut u64, rule: &mut [u8], k: u8, last: bool) {
     let kind = kind_for(seed, k as u64, last);
     let left = earlier(seed, k as u64);
     let right = roll_byte(seed, k as u64);
-    put_rule(
-        rule,
-        start,
-        kind,
-        left_for(kind, k, left),
-        right_for(kind, right),
-    );
+    put_in(rule, start, 0, kind);
+    put_in(rule, start, 1, left_for(kind, k, left));
+    put_in(rule, start, 2, right_for(kind, right));
     interval(seed, rule, start, kind);
 }
 
@@ -147,7 +142,8 @@ fn signal_record(seed: &mut u64, signals: &mut [u8], n: usize) {
         return;
     }
     let start = 8 * n;
-    put_signal(signals, start, roll_byte(seed, 5) % 5 + 1, limit(seed));
+    put_in(signals, start, 0, roll_byte(seed, 5) % 5 + 1);
+    put_two(signals, start, 2, limit(seed));
     put_in(signals, start, 1, roll_byte(seed, 2));
 }
 

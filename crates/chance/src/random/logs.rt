@@ -1,8 +1,6 @@
 // Logs by chance: mostly right, now and then with a record that is spoilt or a short last piece.
 use crate::made::put_in;
-use crate::made::put_time;
 use crate::made::put_two;
-use crate::made::put_wind;
 use crate::random::dice::records;
 use crate::random::dice::roll;
 use crate::random::dice::roll_byte;
@@ -46,8 +44,8 @@ fn later(seed: &mut u64, time: u64) -> u64 {
 // Writes temperature and wind of a log record.
 fn weather(seed: &mut u64, log: &mut [u8], start: usize) {
     put_two(log, start, 4, temperature(seed));
-    let wind = strength(seed);
-    put_wind(log, start, wind, roll_byte(seed, 2));
+    put_two(log, start, 6, strength(seed));
+    put_in(log, start, 11, roll_byte(seed, 2));
 }
 
 // Writes vents and rain of a log record.
@@ -73,7 +71,8 @@ fn log_record(seed: &mut u64, log: &mut [u8], n: usize, before: u64) -> u64 {
         return time;
     }
     let start = 16 * n;
-    put_time(log, start, time);
+    put_two(log, start, 0, time % 65536);
+    put_two(log, start, 2, time / 65536);
     weather(seed, log, start);
     vents(seed, log, start);
     spoil(seed, log, start);

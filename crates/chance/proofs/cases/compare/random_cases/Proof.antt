@@ -8,11 +8,11 @@ use Rattle.chance.proofs.cases.compare.random_cases.Statement.{statemen
 use Rattle.chance.proofs.cases.compare.random_cases.Tie as tie
 
 abbrev Inv-loop : tie.InvT-loop
-Inv-loop cases area₀ tally₀ seed₀ done₀ t6 t7 area tally seed done =
+Inv-loop cases area₀ tally₀ seed₀ done₀ area tally seed done =
     (length area ≡ length area₀) × (length tally ≡ length tally₀)
 
 abbrev μ-loop : tie.MeasureT-loop
-μ-loop cases area₀ tally₀ seed₀ done₀ t6 t7 area tally seed done = cases - done
+μ-loop cases area₀ tally₀ seed₀ done₀ area tally seed done = cases - done
 
 loop-holds : tie.Need-loop-holds Inv-loop μ-loop
 loop-holds c = search needs
@@ -28,21 +28,6 @@ loop-less c = search needs
 
 loop-again : tie.Need-loop-again Inv-loop μ-loop
 loop-again c = search needs
-
-slice-aggregate-text : tie.Need-slice-aggregate-text Inv-loop μ-loop
-slice-aggregate-text c = search needs
-
-text-requires : tie.Need-text-requires Inv-loop μ-loop
-text-requires c κs = search needs
-
-number-requires : tie.Need-number-requires Inv-loop μ-loop
-number-requires c κs = search needs
-
-slice-aggregate-text-2 : tie.Need-slice-aggregate-text-2 Inv-loop μ-loop
-slice-aggregate-text-2 c = search needs
-
-text-requires-2 : tie.Need-text-requires-2 Inv-loop μ-loop
-text-requires-2 c κs = search needs
 
 same-length : tie.Need-same-length Inv-loop μ-loop
 same-length c = search needs
@@ -64,11 +49,6 @@ random-cases-spec =
     add-done
     loop-less
     loop-again
-    slice-aggregate-text
-    text-requires
-    number-requires
-    slice-aggregate-text-2
-    text-requires-2
     same-length
     same-length-2
     returns)
