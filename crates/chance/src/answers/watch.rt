@@ -17,6 +17,12 @@ fn asked(watcher: Watcher, area: &[u64]) -> u8 {
     end_letter(end, b'y', b'n')
 }
 
+// Writes the letters of an answer and of asking after it at two places.
+fn put_both(said: &mut [u8], place: usize, answer: u8, asking: usize, ask: u8) {
+    put(said, place, answer);
+    put(said, asking, ask);
+}
+
 // Feeds a piece of the log, writes its letter and that of asking at two places, and answers the next state.
 fn fed(
     watcher: Watcher,
@@ -29,8 +35,13 @@ fn fed(
     let fed = watcher.feed(piece, area);
     let answer = fed.answer;
     let next = fed.next;
-    put(said, place, answer_letter(answer));
-    put(said, asking, asked(next, area));
+    put_both(
+        said,
+        place,
+        answer_letter(answer),
+        asking,
+        asked(next, area),
+    );
     next
 }
 
@@ -39,8 +50,13 @@ fn close(watcher: Watcher, place: usize, asking: usize, said: &mut [u8], area: &
     let ended = watcher.close(area);
     let answer = ended.answer;
     let next = ended.next;
-    put(said, place, end_letter(answer, b'K', b'B'));
-    put(said, asking, asked(next, area));
+    put_both(
+        said,
+        place,
+        end_letter(answer, b'K', b'B'),
+        asking,
+        asked(next, area),
+    );
 }
 
 // Feeds the log to a watcher that started, closes it, and writes the letters.
