@@ -33,18 +33,22 @@ extern "C" {
 #define HUNCHCOLD_LIST_RECORD_BYTES 8
 #define HUNCHCOLD_LOG_RECORD_BYTES 16
 
-/* The codes that calls answer: a word or a verdict, nothing to refuse, or a refusal. */
+/* The codes that calls answer: a word or a verdict, what a test says, nothing to refuse, or a refusal. */
 #define HUNCHCOLD_FINE 0
 #define HUNCHCOLD_KEPT 101
 #define HUNCHCOLD_BROKEN 102
 #define HUNCHCOLD_PENDING 103
+
+#define HUNCHCOLD_HOLDS 111          /* there is a reading, at least the limit or below it, as the signal asks */
+#define HUNCHCOLD_DOES_NOT_HOLD 112  /* there is a reading, on the other side of the limit */
+#define HUNCHCOLD_NO_READING 113     /* there is no reading */
 
 #define HUNCHCOLD_RULE_LENGTH 1      /* rule length is not a multiple of 8, or not 1 to 16 records */
 #define HUNCHCOLD_RULE_RECORD 2      /* a rule record breaks the layout */
 #define HUNCHCOLD_RULE_TWINS 3       /* two rule records have the same 8 bytes */
 #define HUNCHCOLD_RULE_PARAMETERS 4  /* more than 12 parameters */
 #define HUNCHCOLD_SIGNAL_LIST 5      /* signal list has a wrong length or a record that breaks the layout */
-#define HUNCHCOLD_SIGNAL_MISSING 6   /* the rule names a signal that the list does not define */
+#define HUNCHCOLD_SIGNAL_MISSING 6   /* the rule, or a test, names a signal that the list does not define */
 #define HUNCHCOLD_AREA_LENGTH 7      /* work area is not 1,664 words */
 #define HUNCHCOLD_LOG_RECORD 8       /* log record is not 16 bytes or breaks the layout */
 #define HUNCHCOLD_LOG_TIME 9         /* time is lower than the last accepted record's */
@@ -87,6 +91,17 @@ uint8_t hunchcold_close(uint8_t *state, size_t state_bytes, uint64_t *area, size
 /* How many minutes past the first record the rule can stay pending; HUNCHCOLD_FOREVER where there is no such limit, for
  * bytes that are no state, and where start would refuse the state's rule or list. */
 uint64_t hunchcold_horizon(const uint8_t *state, size_t state_bytes);
+
+/* Tests the signal with a number, counted from 0, of a list in one log record: HUNCHCOLD_HOLDS,
+ * HUNCHCOLD_DOES_NOT_HOLD or HUNCHCOLD_NO_READING, or a refusal. Tests 5, then 8, then 6, for a number that the list
+ * lacks. Needs no state, and writes nothing.
+ *
+ * No reading is 32767 in the record's temperature field, as on a broken wire, and 65535 in its wind field, in either
+ * unit. Such a record is accepted all the same, and the signals of that field do not hold in it, neither "at least" nor
+ * "below". Vents and rain always have a reading. 32767 as wind, 65535 as temperature, which is -1, and either number as
+ * a limit are plain numbers. */
+uint8_t hunchcold_test(const uint8_t *signals, size_t signals_bytes, size_t number, const uint8_t *record,
+                       size_t record_bytes);
 
 #ifdef __cplusplus
 }

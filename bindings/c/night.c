@@ -51,9 +51,27 @@ static void print_code(uint8_t code) {
     }
 }
 
+/* A signal list. */
+struct signals {
+    uint8_t bytes[LIST_ROOM];
+    size_t length;
+};
+
+/* Prints the numbers of the signals that have no reading in an accepted record, if there are some. */
+static void print_blind(const struct signals *signals, const uint8_t *record) {
+    const char *before = " blind ";
+    for (size_t number = 0; number < signals->length / HUNCHCOLD_LIST_RECORD_BYTES; number++) {
+        uint8_t code = hunchcold_test(signals->bytes, signals->length, number, record, HUNCHCOLD_LOG_RECORD_BYTES);
+        if (code == HUNCHCOLD_NO_READING) {
+            printf("%s%zu", before, number);
+            before = ",";
+        }
+    }
+}
+
 /* Feeds each piece of the log, with a line for each, and closes. With more, asks after each accepted record how the log
- * would end now, as at shift change, and goes on. */
-static void watch(uint8_t *state, uint64_t *area, FILE *log, bool more) {
+ * would end now, as at shift change, tells which signals had no reading, and goes on. */
+static void watch(const struct signals *signals, uint8_t *state, uint64_t *area, FILE *log, bool more) {
     uint8_t record[HUNCHCOLD_LOG_RECORD_BYTES];
     size_t length;
     while ((length = read_bytes(log, record, sizeof record)) > 0) {
@@ -66,6 +84,7 @@ static void watch(uint8_t *state, uint64_t *area, FILE *log, bool more) {
         if (accepted && more) {
             printf(" ask ");
             print_code(hunchcold_ask(state, HUNCHCOLD_STATE_BYTES, area, HUNCHCOLD_AREA_WORDS));
+            print_blind(signals, record);
         }
         putchar('\n');
     }
@@ -78,10 +97,10 @@ int main(int count, char **arguments) {
     static uint64_t area[HUNCHCOLD_AREA_WORDS];
     uint8_t state[HUNCHCOLD_STATE_BYTES];
     uint8_t rule[LIST_ROOM];
-    uint8_t signals[LIST_ROOM];
+    struct signals signals;
     size_t rule_bytes = read_list(count, arguments, 1, rule);
-    size_t signals_bytes = read_list(count, arguments, 2, signals);
-    uint8_t code = hunchcold_start(rule, rule_bytes, signals, signals_bytes, state, sizeof state, area,
+    signals.length = read_list(count, arguments, 2, signals.bytes);
+    uint8_t code = hunchcold_start(rule, rule_bytes, signals.bytes, signals.length, state, sizeof state, area,
                                    HUNCHCOLD_AREA_WORDS);
     if (code != HUNCHCOLD_FINE) {
         print_code(code);
@@ -89,7 +108,7 @@ int main(int count, char **arguments) {
         return 0;
     }
     FILE *log = opened(count, arguments, 3);
-    watch(state, area, log, count > 4 && strcmp(arguments[4], "more") == 0);
+    watch(&signals, state, area, log, count > 4 && strcmp(arguments[4], "more") == 0);
     if (log != NULL) {
         fclose(log);
     }

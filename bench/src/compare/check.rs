@@ -7,6 +7,7 @@ use crate::counts::{Counts, Mark};
 use crate::ends::SoFar;
 use crate::lists::{self, *};
 use crate::plain;
+use crate::signals;
 use crate::state::*;
 use hunchcold::raw;
 
@@ -19,6 +20,7 @@ pub fn check(case: &Case, counts: &mut Counts) -> Result<(), String> {
     if !case.handed_in {
         run(case, counts)?;
     }
+    signals::check(case, counts)?;
     calls(case, counts)
 }
 
@@ -194,7 +196,7 @@ impl Pair {
     }
 }
 
-fn same<T: PartialEq + std::fmt::Display>(call: &str, what: &str, found: T, wanted: T) -> Result<(), String> {
+pub fn same<T: PartialEq + std::fmt::Display>(call: &str, what: &str, found: T, wanted: T) -> Result<(), String> {
     if found == wanted {
         Ok(())
     } else {

@@ -6,6 +6,7 @@ use crate::counts::{Counts, Mark};
 use crate::ends::{ending, record_refusal};
 use crate::lists::*;
 use crate::meaning::{horizon, value};
+use crate::readings::{in_kilometres, moment_of};
 
 /// The accepted records and their words, and the verdict, of a run that was started.
 struct Run {
@@ -34,7 +35,7 @@ pub fn check(case: &Case, codes: &[u8], verdict: u8, counts: &mut Counts) -> Res
         if refusal == 0 {
             run.log.push(moment_of(&case.signals, record));
             run.words.push(*code);
-            let unit = if record[11] == 0 {
+            let unit = if in_kilometres(record) {
                 Mark::KilometresAnHour
             } else {
                 Mark::MetresASecond

@@ -76,9 +76,18 @@ pub enum Mark {
     HandedInAndClosed,
     AskedAndValued,
     AskedOverScratch,
+    NoAir,
+    NoWindInKilometres,
+    NoWindInMetres,
+    NearBrokenWire,
+    NearSilentHead,
+    AirOfSilentHead,
+    WindOfBrokenWire,
+    ListBeforeRecord,
+    RecordBeforeNumber,
 }
 
-const MARKS: [(Mark, &str); 13] = [
+const MARKS: [(Mark, &str); 22] = [
     (Mark::EqualTimes, "record with the time before it"),
     (Mark::KilometresAnHour, "record with wind in km/h"),
     (Mark::MetresASecond, "record with wind in m/s"),
@@ -92,6 +101,15 @@ const MARKS: [(Mark, &str); 13] = [
     (Mark::HandedInAndClosed, "handed in, then closed"),
     (Mark::AskedAndValued, "ask held against the value so far"),
     (Mark::AskedOverScratch, "verdict of ask, scratch not zero"),
+    (Mark::NoAir, "no reading: air"),
+    (Mark::NoWindInKilometres, "no reading: wind in km/h"),
+    (Mark::NoWindInMetres, "no reading: wind in m/s"),
+    (Mark::NearBrokenWire, "air of 32766, which is read"),
+    (Mark::NearSilentHead, "wind of 65534, which is read"),
+    (Mark::AirOfSilentHead, "air of 65535, which is read as -1"),
+    (Mark::WindOfBrokenWire, "wind of 32767, which is read"),
+    (Mark::ListBeforeRecord, "5, and the record is wrong too"),
+    (Mark::RecordBeforeNumber, "8, and the number is lacking too"),
 ];
 
 const RULE_KINDS: [(u8, &str); 9] = [
@@ -115,6 +133,7 @@ pub struct Counts {
     pub feed: Table,
     pub ask: Table,
     pub close: Table,
+    pub test: Table,
     pub reasons: Table,
     pub parameters: Table,
     pub records: Table,
@@ -137,6 +156,7 @@ impl Counts {
             feed: Table::of_codes("Answers of feed", &[101, 102, 103, 7, 8, 9, 10, 12, 91]),
             ask: Table::of_codes("Answers of ask", &[101, 102, 7, 10, 11, 12, 91]),
             close: Table::of_codes("Answers of close", &[101, 102, 7, 10, 11, 12, 91]),
+            test: Table::of_codes("Answers of test", &[111, 112, 113, 5, 6, 8]),
             reasons: Table::new(
                 "Calls refused with 12, by reason",
                 REASONS.into_iter().enumerate().map(numbered),
@@ -152,7 +172,7 @@ impl Counts {
         self.marks.add(mark as u64);
     }
 
-    fn tables(&self) -> [&Table; 12] {
+    fn tables(&self) -> [&Table; 13] {
         [
             &self.kinds,
             &self.run,
@@ -162,6 +182,7 @@ impl Counts {
             &self.feed,
             &self.ask,
             &self.close,
+            &self.test,
             &self.reasons,
             &self.parameters,
             &self.records,

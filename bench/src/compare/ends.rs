@@ -3,6 +3,7 @@
 use crate::codes::*;
 use crate::lists::*;
 use crate::meaning::value;
+use crate::readings::moment_of;
 
 /// The refusal of a record by its layout and its time, or 0.
 pub fn record_refusal(record: &[u8], log: &[Moment]) -> u8 {

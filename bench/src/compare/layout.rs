@@ -19,6 +19,7 @@ pub struct Layout {
     pub lists: u64,
     pub records: u64,
     pub readings: u64,
+    pub tests: u64,
     /// The first difference, with the bytes that show it.
     pub difference: Option<String>,
 }
@@ -34,12 +35,14 @@ pub fn layout() -> Layout {
         lists: 0,
         records: 0,
         readings: 0,
+        tests: 0,
         difference: None,
     };
     layout.rule_bytes();
     layout.intervals();
     layout.list_bytes();
     layout.lengths();
+    layout.numbers();
     layout.log_bytes();
     layout.all_readings();
     layout.all_limits();
@@ -59,11 +62,15 @@ fn fair(kind: u8) -> [u8; 8] {
 impl Layout {
     fn compare(&mut self, answer: u8, wanted: u8, show: impl Fn() -> String) {
         let same = answer == wanted && self.state == self.wanted_state && self.area == self.wanted_area;
+        self.note(same, || {
+            format!("answers {answer}, wanted {wanted}, or state or area differ; {}", show())
+        });
+    }
+
+    /// Keeps the first difference.
+    fn note(&mut self, same: bool, show: impl Fn() -> String) {
         if !same && self.difference.is_none() {
-            self.difference = Some(format!(
-                "answers {answer}, wanted {wanted}, or state or area differ; {}",
-                show()
-            ));
+            self.difference = Some(show());
         }
     }
 
@@ -72,6 +79,17 @@ impl Layout {
         let wanted = plain::start(rule, signals, &mut self.wanted_state, &mut self.wanted_area);
         self.compare(answer, wanted, || {
             format!("start, rule {}, signals {}", hex(rule), hex(signals))
+        });
+    }
+
+    /// Tests a signal of a list in a record.
+    fn test(&mut self, signals: &[u8], number: usize, record: &[u8]) {
+        self.tests += 1;
+        let answer = raw::test(signals, number, record);
+        let wanted = plain::test(signals, number, record);
+        self.note(answer == wanted, || {
+            let (signals, record) = (hex(signals), hex(record));
+            format!("answers {answer}, wanted {wanted}; test of {number}, signals {signals}, record {record}")
         });
     }
 
@@ -84,6 +102,7 @@ impl Layout {
     fn start_list(&mut self, signals: &[u8]) {
         self.lists += 1;
         self.start(&RULE, signals);
+        (0..2).for_each(|number| self.test(signals, number, &record(120, 1)));
     }
 
     /// Feeds a record to a fresh watcher.
@@ -149,37 +168,55 @@ impl Layout {
         }
     }
 
+    /// Lists of every number of signals, and numbers of signals up to the largest.
+    fn numbers(&mut self) {
+        let signals = [5, 0, 1, 0, 0, 0, 0, 0].repeat(MOST_RECORDS);
+        for length in (0..=signals.len()).step_by(LIST_RECORD) {
+            for number in (0..300).chain((9..64).map(|bit| 1 << bit)).chain([usize::MAX]) {
+                self.test(&signals[..length], number, &record(1, 0));
+                self.test(&signals[..length], number, &[0; 15]);
+            }
+        }
+    }
+
+    fn log_record(&mut self, record: &[u8]) {
+        self.records += 1;
+        self.feed_first(&RULE, &SIGNALS, record);
+        (0..3).for_each(|number| self.test(&SIGNALS, number, record));
+    }
+
     /// Each byte of a log record, and every length.
     fn log_bytes(&mut self) {
         for place in 0..LOG_RECORD {
             for byte in 0..=255 {
                 let mut record = [0; LOG_RECORD];
                 record[place] = byte;
-                self.records += 1;
-                self.feed_first(&RULE, &SIGNALS, &record);
+                self.log_record(&record);
             }
         }
         for length in (0..40).chain([256, 272, 65_536, 65_552]) {
-            self.records += 1;
-            self.feed_first(&RULE, &SIGNALS, &vec![0; length]);
+            self.log_record(&vec![0; length]);
         }
     }
 
-    /// A record against a list of 16 signals, whose word the state then holds.
+    /// A record against a list of 16 signals, whose word the state then holds; then each signal by itself.
     fn reading(&mut self, signals: &[u8], record: &[u8]) {
         self.readings += 1;
         self.feed_first(&RULE, signals, record);
+        (0..MOST_RECORDS).for_each(|number| self.test(signals, number, record));
     }
 
-    /// Every temperature and every wind, in each unit, against limits at the ends and about 0 and 120.
+    /// Every temperature and every wind, in each unit, against limits at the ends, in both senses, and about 0 and 120.
     fn all_readings(&mut self) {
         let limits = [
             -32768, -32767, -1, 0, 1, 119, 120, 121, 3640, 3641, 13107, 18204, 18205, 18206, 32766, 32767,
         ];
         for (channel, unit) in [(1, 0), (2, 0), (2, 1)] {
             let signals = signals(channel, &limits);
+            let turned = turned(&signals);
             for number in 0..=u16::MAX {
                 self.reading(&signals, &record(number, unit));
+                self.reading(&turned, &record(number, unit));
             }
         }
     }
@@ -214,6 +251,17 @@ fn signals(channel: u8, limits: &[i16]) -> Vec<u8> {
         [channel, (limit & 1) as u8, low, high, 0, 0, 0, 0]
     };
     limits.iter().flat_map(signal).collect()
+}
+
+/// The same signals in the other sense.
+fn turned(signals: &[u8]) -> Vec<u8> {
+    let mut turned = signals.to_vec();
+    turned
+        .iter_mut()
+        .skip(1)
+        .step_by(LIST_RECORD)
+        .for_each(|sense| *sense ^= 1);
+    turned
 }
 
 /// A record with a number as temperature and wind, and vents and rain as near to it as they go.

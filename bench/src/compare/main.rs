@@ -15,9 +15,11 @@ mod layout;
 mod lists;
 mod meaning;
 mod plain;
+mod readings;
 mod rewriting;
 mod rules;
 mod shrink;
+mod signals;
 mod state;
 
 use counts::Counts;
@@ -87,8 +89,8 @@ fn arguments() -> [u64; 3] {
 fn layout_differs() -> bool {
     let found = layout::layout();
     println!(
-        "Layout, byte by byte: {} rules, {} lists, {} log records, {} readings",
-        found.rules, found.lists, found.records, found.readings
+        "Layout, byte by byte: {} rules, {} lists, {} log records, {} readings, {} tests of a signal",
+        found.rules, found.lists, found.records, found.readings, found.tests
     );
     if let Some(difference) = &found.difference {
         println!("DIFFERENCE in the layout: {difference}");

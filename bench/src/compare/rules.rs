@@ -92,7 +92,7 @@ pub fn signal_list(chance: &mut Chance, signals: usize) -> Vec<u8> {
 fn signal(chance: &mut Chance) -> [u8; LIST_RECORD] {
     let channel = 1 + chance.below(5) as u8;
     let limit: i16 = match channel {
-        1 => chance.pick(&[-32768, -300, -5, 0, 1, 215, 32767]),
+        1 => chance.pick(&[-32768, -32768, -300, -5, -1, 0, 1, 215, 32766, 32767, 32767]),
         2 => chance.pick(&[-32768, -1, 0, 1, 119, 120, 121, 200, 18204, 18205, 32767]),
         5 => chance.pick(&[-1, 0, 1, 1, 1, 1, 2]),
         _ => chance.pick(&[-1, 0, 1, 1, 50, 100, 101]),
@@ -131,15 +131,17 @@ fn gap(chance: &mut Chance) -> u32 {
 
 /// A record at a time, with readings about the limits of `signal`.
 pub fn log_record(chance: &mut Chance, time: u32) -> Vec<u8> {
-    let temperature: i16 = chance.pick(&[-32768, -301, -300, -6, -5, 0, 1, 214, 215, 216, 32766, 32767]);
+    let temperature: i16 = chance.pick(&[
+        -32768, -301, -300, -6, -5, -1, 0, 1, 214, 215, 216, 32766, 32766, 32767, 32767,
+    ]);
     let unit = chance.below(2) as u8;
     let wind: u16 = if unit == 0 {
         chance.pick(&[
-            0, 1, 2, 3, 4, 144, 428, 429, 431, 432, 433, 435, 436, 719, 720, 65534, 65535,
+            0, 1, 2, 3, 4, 144, 428, 429, 431, 432, 433, 435, 436, 719, 720, 32767, 65534, 65535, 65535,
         ])
     } else {
         chance.pick(&[
-            0, 1, 2, 118, 119, 120, 121, 144, 199, 200, 18204, 18205, 32767, 32768, 65535,
+            0, 1, 2, 118, 119, 120, 121, 144, 199, 200, 18204, 18205, 32767, 32768, 65534, 65535, 65535,
         ])
     };
     let vents: [u8; 2] = [

@@ -95,6 +95,12 @@ pub fn by_chance(seed: u64, minutes: u32) -> Vec<[u8; 16]> {
     log
 }
 
+/// A log with no reading of the wind in every fourth record.
+pub fn silent(mut log: Vec<[u8; 16]>) -> Vec<[u8; 16]> {
+    log.iter_mut().step_by(4).for_each(|record| record[6..8].fill(255));
+    log
+}
+
 /// 51 records, a minute apart: signal 0 holds and the others do not, so that an until over them stays open.
 fn open() -> Vec<[u8; 16]> {
     (0..51).map(|time| log_record(time, 130, 1, 0, 0)).collect()

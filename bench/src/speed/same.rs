@@ -1,7 +1,7 @@
 //! Whether the sides do the same: codes, states and areas, after each call on what is measured, and on logs by
 //! chance.
 
-use crate::cases::{by_chance, Case};
+use crate::cases::{by_chance, silent, Case};
 use crate::side::{Call, Side, Watched, SIDES};
 
 /// What differs after a call, if anything.
@@ -85,10 +85,13 @@ pub fn same(case: &Case) -> Result<(), String> {
     follow(&format!("{label}, whole log"), &started, &case.log)?;
     follow(&format!("{label}, measured"), &case.begin, case.later())?;
     for seed in 0..10 {
+        let log = by_chance(seed, 1 + seed as u32 % 3);
+        let what = format!("{label}, log by chance {seed}");
+        follow(&what, &started, &log.concat())?;
         follow(
-            &format!("{label}, log by chance {seed}"),
+            &format!("{what}, wind silent at times"),
             &started,
-            &by_chance(seed, 1 + seed as u32 % 3).concat(),
+            &silent(log).concat(),
         )?;
     }
     let what = format!("{label}, {}", Call::Run.name());

@@ -1,6 +1,6 @@
 //! Watches one log as the watching program does, call by call: night RULE SIGNALS LOG [more]
 
-use hunchcold::{Refusal, Watcher, LOG_RECORD_BYTES};
+use hunchcold::{test_signal, Refusal, Tested, Watcher, LIST_RECORD_BYTES, LOG_RECORD_BYTES};
 use std::io::{self, Write};
 use std::{env, fs};
 
@@ -30,8 +30,20 @@ fn asked(watcher: &Watcher) -> String {
     }
 }
 
+/// The numbers of the signals that have no reading in an accepted record, if there are some.
+fn blind(signals: &[u8], record: &[u8]) -> String {
+    let numbers: Vec<String> = (0..signals.len() / LIST_RECORD_BYTES)
+        .filter(|&number| test_signal(signals, number, record) == Ok(Tested::NoReading))
+        .map(|number| number.to_string())
+        .collect();
+    match numbers.is_empty() {
+        true => String::new(),
+        false => format!(" blind {}", numbers.join(",")),
+    }
+}
+
 /// Starts, feeds each piece of the log and closes, with a line for each answer. With more, asks after each accepted
-/// record how the log would end now, as at shift change, and goes on.
+/// record how the log would end now, as at shift change, tells which signals had no reading, and goes on.
 fn watch(rule: &[u8], signals: &[u8], log: &[u8], more: bool, out: &mut impl Write) -> io::Result<()> {
     let mut watcher = match Watcher::start(rule, signals) {
         Ok(watcher) => watcher,
@@ -39,7 +51,10 @@ fn watch(rule: &[u8], signals: &[u8], log: &[u8], more: bool, out: &mut impl Wri
     };
     for piece in log.chunks(LOG_RECORD_BYTES) {
         match watcher.feed(piece) {
-            Ok(word) if more => writeln!(out, "{} {word}{}", time_of(piece), asked(&watcher))?,
+            Ok(word) if more => {
+                let (asked, blind) = (asked(&watcher), blind(signals, piece));
+                writeln!(out, "{} {word}{asked}{blind}", time_of(piece))?
+            }
             Ok(word) => writeln!(out, "{} {word}", time_of(piece))?,
             Err(refusal) => writeln!(out, "{}", refused(refusal))?,
         }

@@ -2,6 +2,7 @@
 //!
 //! A [`Watcher`] reads one rule, a list of signals and a log, record by record, and says of the rule *kept*, *broken*
 //! or *pending*. Whatever it is handed gets an answer: a word, a verdict, or a [`Refusal`]. Nothing here panics.
+//! [`test_signal`] says of one signal in one record whether it holds, or has no reading there.
 //!
 //! ```
 //! use hunchcold::{Verdict, Watcher, Word};
@@ -28,11 +29,13 @@
 pub mod raw;
 mod refusal;
 mod run;
+mod tested;
 mod watcher;
 mod word;
 
 pub use refusal::Refusal;
 pub use run::{run, Run};
+pub use tested::{test_signal, Tested};
 pub use watcher::Watcher;
 pub use word::{Verdict, Word};
 

@@ -44,6 +44,13 @@ extern "C" {
     fn hunchcold_ask(state: *const u8, state_bytes: usize, area: *const u64, area_words: usize) -> u8;
     fn hunchcold_close(state: *mut u8, state_bytes: usize, area: *mut u64, area_words: usize) -> u8;
     fn hunchcold_horizon(state: *const u8, state_bytes: usize) -> u64;
+    fn hunchcold_test(
+        signals: *const u8,
+        signals_bytes: usize,
+        number: usize,
+        record: *const u8,
+        record_bytes: usize,
+    ) -> u8;
 }
 
 /// Runs a whole log, with a code for each piece; answers the code of closing, or start's refusal. Where no piece is
@@ -123,4 +130,10 @@ pub fn close(state: &mut [u8], area: &mut [u64]) -> u8 {
 /// How many minutes the rule can stay open; `u64::MAX` where there is no such limit.
 pub fn horizon(state: &[u8]) -> u64 {
     unsafe { hunchcold_horizon(state.as_ptr(), state.len()) }
+}
+
+/// Tests one signal of a list in one log record: 111 holds, 112 does not hold, 113 no reading, or a refusal: 5, 8 or 6,
+/// tested in that order. Writes nothing.
+pub fn test(signals: &[u8], number: usize, record: &[u8]) -> u8 {
+    unsafe { hunchcold_test(signals.as_ptr(), signals.len(), number, record.as_ptr(), record.len()) }
 }

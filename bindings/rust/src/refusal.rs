@@ -18,7 +18,7 @@ pub enum Refusal {
     RuleParameters,
     /// 5: the signal list has a wrong length or a record that breaks the layout.
     SignalList,
-    /// 6: the rule names a signal that the list does not define.
+    /// 6: the rule, or a test, names a signal that the list does not define.
     SignalMissing,
     /// 7: the work area is not 1,664 words.
     AreaLength,
@@ -93,7 +93,7 @@ impl Refusal {
             Refusal::RuleTwins => "two rule records have the same 8 bytes",
             Refusal::RuleParameters => "more than 12 parameters",
             Refusal::SignalList => "signal list has a wrong length or a record that breaks the layout",
-            Refusal::SignalMissing => "the rule names a signal that the list does not define",
+            Refusal::SignalMissing => "the rule or a test names a signal that the list does not define",
             Refusal::AreaLength => "work area is not 1,664 words",
             Refusal::LogRecord => "log record is not 16 bytes or breaks the layout",
             Refusal::LogTime => "time is lower than the last accepted record's",

@@ -3,4 +3,5 @@ pub mod Calls
 pub mod Coding
 pub mod Feeding
 pub mod Refusing
+pub mod Tests
 pub mod Runs

@@ -1,3 +1,4 @@
 pub mod Exporting
 pub mod Calls
+pub mod Tests
 pub mod Runs

@@ -1,15 +1,9 @@
 -- The owner's three demands hold of any functions that meet the clauses of start, feed, ask and close.
 -- Assumes nothing.
 use mathlib.Core.Path.{_≡_, refl, sym, ap, _∙_, subst}
-use mathlib.Core.Bool.{false, not, cond}
 use mathlib.Core.List.{List, [], _∷_, _++_}
 use Prim.Native.Nat.{ℕ}
-use native.Mathlib.Omega.{arith}
-use lib.Dec.{eqb, leb}
-use borrow.Author.Tests.{lt-leb}
-use Rattle.ground.proofs.Numbers.{bit-ofBits}
-use Rattle.meaning.specs.Rule.{Entry, holds}
-use Rattle.rewriting.specs.Decode.{byteOf}
+use Rattle.meaning.specs.Rule.{Entry}
 use Rattle.watcher.specs.declared.state.Watcher.{Watcher}
 use Rattle.watcher.specs.declared.state.Found.{Found}
 use Rattle.watcher.specs.declared.state.Found.the-variants.{Fine, Refused}
@@ -17,25 +11,22 @@ use Rattle.watcher.specs.declared.state.Started.{Started}
 use Rattle.watcher.specs.declared.state.Fed.{Fed}
 use Rattle.watcher.specs.declared.state.Ended.{Ended}
 use Rattle.watcher.specs.declared.state.Word.{Word}
-use Rattle.watcher.specs.Limits.{mostSignals}
-use Rattle.watcher.specs.Signals.{limitOf}
-use Rattle.watcher.specs.Records.{meets, signalHolds, signalWord, entryOf}
 use Rattle.watcher.specs.Lists.{listTests}
 use Rattle.watcher.specs.Numbers.{refusalNumber, saying, Says, foundIn, foundAt, decided}
 use Rattle.watcher.specs.Calls.{zeroState, startRefusal, startWith, startOf, stateTests, feedRefusal, feedWith, feedOf}
 use Rattle.watcher.specs.Calls.{closeRefusal, closeWith, closeOf}
 use Rattle.watcher.specs.Machine.{MachineBytes}
 use Rattle.watcher.proofs.Decoded.{Accepted}
-use Rattle.watcher.proofs.Speed.{wind-exact}
 use Rattle.demands.specs.Watching.{Functions, Meets, defined, Call, feeding, told, ending, reached, MachineCall}
 use Rattle.demands.specs.Watching.{MachineCalls, Begun}
 use Rattle.demands.specs.Logs.{logWith, going, courseOf, logIn}
 use Rattle.demands.specs.Rewritten.{heldIn, wordAfter}
 use Rattle.demands.specs.Tables.{startTable, feedTable, closeTable, Carries, AsTable}
 use Rattle.demands.specs.Demands.{Demand1, Rewrites, ClosingReports, StateIsRewritten, WordIsRewritten}
-use Rattle.demands.specs.Demands.{WindIsExact, WordHolds, WordStays, ClosingAgrees}
+use Rattle.demands.specs.Demands.{WordHolds, WordStays, ClosingAgrees}
 use Rattle.demands.specs.Demands.{FiniteIsDecided, HorizonDecides, Demands}
 use Rattle.demands.proofs.OwnStates.{start-accepted}
+use Rattle.demands.proofs.Signals.{signals-are-tested, wind-is-exact}
 use Rattle.demands.proofs.Tabled.{as-table}
 use Rattle.demands.proofs.Logs.{Right}
 use Rattle.demands.proofs.Values.{finite-rule}
@@ -102,15 +93,6 @@ close-leaves w ws n c = go (closeRefusal w ws) c
         → (closeWith f w ws .0 .next ≡ w) × (closeWith f w ws .1 ≡ ws)
     go Fine c = absurd c
     go (Refused r) c = (refl, refl)
-
--- a wind signal's bit is the comparison of exact speeds
-pub wind-is-exact : WindIsExact
-unfolding holds entryOf signalWord signalHolds meets
-wind-is-exact list count n bytes h most wind =
-    bit-ofBits mostSignals (λ i. cond (leb count i) false (signalHolds list bytes i)) n (omega arith)
-    ∙ ap (λ b. cond b false (signalHolds list bytes n)) (lt-leb count n h)
-    ∙ ap (λ met. cond (eqb (byteOf list n 1) 0) met (not met))
-    (ap (λ channel. meets bytes channel (limitOf list n)) wind ∙ wind-exact bytes (limitOf list n))
 
 -- calls with a record and more behind them
 pub machine-more : (calls : List Call) (bytes : List ℕ) (more : List Call) → MachineCalls calls → MachineBytes bytes
@@ -250,6 +232,7 @@ module _ (f : Functions) (right : Meets f) where
               reports = closing-reports;
               state = state-is-rewritten;
               word = word-is-rewritten;
+              signals = signals-are-tested;
               wind = wind-is-exact;
             };
         third =

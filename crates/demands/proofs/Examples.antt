@@ -21,8 +21,8 @@ use Rattle.watcher.specs.Places.{isFound, orElse, firstWhere}
 use Rattle.watcher.specs.Rules.{recordsOf, wrongLengthIn, usedBytes, uses, fairLimits, namesRight, usedRight}
 use Rattle.watcher.specs.Rules.{byteBreaks, firstBroken, sameRecord, firstTwins, manyParameters}
 use Rattle.watcher.specs.Signals.{signalBreaks, wrongSignals, namesMissing, limitOf}
-use Rattle.watcher.specs.Records.{wrongRecord, timeOf, temperatureOf, windOf, windMeets, meets, signalHolds, signalWord}
-use Rattle.watcher.specs.Records.{entryOf}
+use Rattle.watcher.specs.Records.{wrongRecord, timeOf, temperatureOf, windOf, windMeets, meets, hasReading, testBy}
+use Rattle.watcher.specs.Records.{lacks, testOf, signalWord, entryOf}
 use Rattle.watcher.specs.Lists.{firstRefusal, listTests, listsRefusal}
 use Rattle.watcher.specs.State.{isRefused}
 use Rattle.demands.specs.Logs.{lastTime, accepts, logWith}
@@ -51,6 +51,6 @@ unfolding table passes fold someIn everyIn tab bit ofBits little constant parame
     wordFor word refusalNumber byteOf recordsOf wrongLengthIn usedBytes uses fairLimits namesRight usedRight byteBreaks
     firstBroken sameRecord firstTwins isFound orElse firstWhere endless intervalOf intervalFor nodeOf recordIn nodeFor
     nodeIn ruleIn signalBreaks wrongSignals namesMissing limitOf wrongRecord timeOf temperatureOf windOf windMeets meets
-    signalHolds signalWord entryOf firstRefusal isRefused wordOf manyParameters listTests listsRefusal lastTime accepts
-    logWith readRule parametersIn
+    hasReading testBy lacks testOf signalWord entryOf firstRefusal isRefused wordOf manyParameters listTests
+    listsRefusal lastTime accepts logWith readRule parametersIn
 examples = refl

@@ -123,7 +123,7 @@ module _ (rule signals : List ℕ) (fine : Accepted rule signals) where
       ap (λ f. feedWith f (stateIn rule signals p) bytes ws) e
       ∙ (λ i.
       fedBy (rule-in rule signals fine p i) (stateIn rule signals p)
-      (entry-padded signals (list-short rule signals fine) (recordsOf signals) bytes i) ws (stageOf p))
+      (entry-padded signals (list-short rule signals fine) bytes i) ws (stageOf p))
 
   closed-by : (p : Phase) (ws : List ℕ) → closeRefusal (stateIn rule signals p) ws ≡ Fine
       → closeOf (stateIn rule signals p) ws ≡ closedBy (readRule rule) (stateIn rule signals p) ws (stageOf p)

@@ -1,5 +1,6 @@
 pub mod Examples
 pub mod Padding
+pub mod Signals
 pub mod OwnStates
 pub mod Feeding
 pub mod Judging

@@ -8,10 +8,8 @@ use Prim.Native.Nat.{ℕ, zero, suc, _+_, _-_, _*_, _^_, _≤_, _<_}
 use native.Mathlib.Omega.{arith}
 use native.Mathlib.Nat.{lt-of-lt-of-le}
 use lib.Pow.{pow-pos, pow-mono}
-use lib.Dec.{leb}
 use lib.ListN.{length, getD, take, List·getD-eq-default}
 use lib.Seq.{ext-getD, length-take-le, getD-take}
-use borrow.Author.Tests.{le-leb}
 use Rattle.ground.specs.Bits.{ofBits}
 use Rattle.ground.specs.Bytes.{zerosFrom, little}
 use Rattle.ground.proofs.Folds.{less-or-not}
@@ -21,9 +19,11 @@ use Rattle.ground.proofs.ByteLaws.{zeros-all}
 use Rattle.rewriting.specs.Decode.{byteOf, nodeIn, ruleIn}
 use Rattle.rewriting.proofs.Rules.{node-same}
 use Rattle.watcher.specs.Limits.{mostSignals, listBytes}
+use Rattle.watcher.specs.Rules.{recordsOf}
 use Rattle.watcher.specs.Signals.{limitOf}
-use Rattle.watcher.specs.Records.{timeOf, signalHolds, signalWord, entryOf}
+use Rattle.watcher.specs.Records.{timeOf, testBy, testOf, isHolding, signalWord, entryOf}
 use Rattle.watcher.specs.Calls.{padded}
+use Rattle.watcher.proofs.Tests.{test-past, test-here}
 
 -- a list of at most 128 bytes
 module _ (list : List ℕ) (short : length list ≤ listBytes) where
@@ -73,17 +73,37 @@ module _ (list : List ℕ) (short : length list ≤ listBytes) where
   little-padded at zero = refl
   little-padded at (suc n) = ap₂ (λ x y. x + 256 * y) (padded-at at) (little-padded (at + 1) n)
 
-  signal-padded : (bytes : List ℕ) (n : ℕ) → signalHolds (padded list) bytes n ≡ signalHolds list bytes n
-  unfolding signalHolds limitOf
-  signal-padded bytes n = rw (byte-padded n 0, byte-padded n 1, little-padded (8 * n + 2) 2)
+  count-padded : (n : ℕ) → n < recordsOf list → (n < 16) × (n < recordsOf (padded list))
+  unfolding recordsOf
+  count-padded n h = (omega arith, omega (arith, length-padded))
 
-  pub entry-padded : (signals : ℕ) (bytes : List ℕ) → entryOf (padded list) signals bytes ≡ entryOf list signals bytes
+  by-padded : (bytes : List ℕ) (n : ℕ)
+      → testBy bytes (byteOf (padded list) n 0) (byteOf (padded list) n 1) (limitOf (padded list) n)
+      ≡ testBy bytes (byteOf list n 0) (byteOf list n 1) (limitOf list n)
+  unfolding limitOf
+  by-padded bytes n = rw (byte-padded n 0, byte-padded n 1, little-padded (8 * n + 2) 2)
+
+  pub test-padded : (bytes : List ℕ) (n : ℕ)
+      → testOf (padded list) (recordsOf list) bytes n ≡ testOf list (recordsOf list) bytes n
+  test-padded bytes n = ⊎-elim within past (less-or-not n (recordsOf list))
+    where
+      past : recordsOf list ≤ n → testOf (padded list) (recordsOf list) bytes n ≡ testOf list (recordsOf list) bytes n
+      past h = sym (test-past (padded list) (recordsOf list) bytes n h) ∙ test-past list (recordsOf list) bytes n h
+
+      within : n < recordsOf list → testOf (padded list) (recordsOf list) bytes n ≡ testOf list (recordsOf list) bytes n
+      within h =
+          let k = count-padded n h in
+          sym (test-here (padded list) (recordsOf list) bytes n h (k .1) (k .0)) ∙ by-padded bytes n
+          ∙ test-here list (recordsOf list) bytes n h h (k .0)
+
+  pub entry-padded : (bytes : List ℕ)
+      → entryOf (padded list) (recordsOf list) bytes ≡ entryOf list (recordsOf list) bytes
   unfolding entryOf signalWord
-  entry-padded signals bytes =
+  entry-padded bytes =
       λ i.
       record {
         time = timeOf bytes;
-        signals = ofBits mostSignals (λ n. cond (leb signals n) false (signal-padded bytes n i));
+        signals = ofBits mostSignals (λ n. isHolding (test-padded bytes n i));
       }
 
 -- a number whose bits stop before c is below 2 ^ c
@@ -102,5 +122,5 @@ ofBits-below (suc n) c g h =
 pub entry-below : (list : List ℕ) (signals : ℕ) (bytes : List ℕ) → entryOf list signals bytes .signals < 2 ^ signals
 unfolding entryOf signalWord
 entry-below list signals bytes =
-    ofBits-below mostSignals signals (λ n. cond (leb signals n) false (signalHolds list bytes n))
-    (λ t h. ap (λ b. cond b false (signalHolds list bytes t)) (le-leb signals t h))
+    ofBits-below mostSignals signals (λ n. isHolding (testOf list signals bytes n))
+    (λ t h. sym (ap isHolding (test-past list signals bytes t h)))

@@ -2,28 +2,24 @@
 -- that a machine can hand in. `crates/watcher` has the functions, and each demand is proved of any that meet its
 -- clauses. Runs are of any calls, asks among them; what is promised of asking itself is in `Asking.antt`.
 use mathlib.Core.Path.{_≡_}
-use mathlib.Core.Bool.{Bool, true, not, cond}
+use mathlib.Core.Bool.{Bool, true}
 use mathlib.Core.List.{List, [], _∷_, _++_}
-use Prim.Native.Nat.{ℕ, _+_, _≤_, _<_}
-use lib.Dec.{eqb}
-use Rattle.meaning.specs.Rule.{Entry, holds, timeAt, Climbs}
+use Prim.Native.Nat.{ℕ, _+_, _<_}
+use Rattle.meaning.specs.Rule.{Entry, timeAt, Climbs}
 use Rattle.meaning.specs.Meaning.{valueOf}
 use Rattle.meaning.specs.Horizon.{within, horizon, AllFinite}
-use Rattle.rewriting.specs.Decode.{byteOf}
 use Rattle.watcher.specs.declared.state.Watcher.{Watcher}
 use Rattle.watcher.specs.declared.state.Word.{Word}
 use Rattle.watcher.specs.declared.state.End.the-variants.{Closed}
 use Rattle.watcher.specs.declared.state.Found.the-variants.{Fine}
-use Rattle.watcher.specs.Limits.{mostSignals}
-use Rattle.watcher.specs.Signals.{limitOf}
-use Rattle.watcher.specs.Records.{timeOf, entryOf}
-use Rattle.watcher.specs.Speed.{notSlower, perSecond, windSpeed}
+use Rattle.watcher.specs.Records.{timeOf}
 use Rattle.watcher.specs.Numbers.{saying, decided, Says, foundIn, foundAt, verdictFor}
 use Rattle.watcher.specs.Calls.{zeroState, startWith, feedWith, closeWith}
 use Rattle.watcher.specs.Machine.{MachineBytes, MachineWords, MachineState}
 use Rattle.demands.specs.Watching.{Functions, Call, feeding, told, ending, reached, MachineCalls, Begun}
 use Rattle.demands.specs.Logs.{lastTime, accepts, logWith, going, courseOf, logOf}
 use Rattle.demands.specs.Rewritten.{readRule, heldIn, wordAfter}
+use Rattle.demands.specs.Signals.{SignalsAreTested, WindIsExact}
 use Rattle.demands.specs.Tables.{startTable, feedTable, closeTable, NoneHolds, Carries, AsTable}
 
 -- Demand 1: everything handed in gets an answer, and a refusal carries the number from the table, is given exactly
@@ -77,20 +73,12 @@ module _ (f : Functions) (rule signals ws : List ℕ) where
       → courseOf signals calls ≡ going log → (bytes : List ℕ) → MachineBytes bytes → accepts log bytes ≡ true
       → Says (told f (reached f rule signals ws calls) bytes) (saying (wordAfter rule (logWith signals log bytes)))
 
--- a wind signal compares exact speeds, whatever the unit: "at least" (0) holds where the wind is not slower than the
--- limit, "below" (1) otherwise
-abbrev pub WindIsExact : Type 0
-WindIsExact =
-    (list : List ℕ) (count n : ℕ) (bytes : List ℕ) → n < count → count ≤ mostSignals → byteOf list n 0 ≡ 2
-    → holds (entryOf list count bytes) n
-    ≡ (let met : Bool = notSlower (windSpeed bytes) (perSecond (limitOf list n)) in
-    cond (eqb (byteOf list n 1) 0) met (not met))
-
 pub record Demand2 (f : Functions) : Type 0 where
   pub calls : Rewrites f
   pub reports : (rule signals ws : List ℕ) → ClosingReports f rule signals ws
   pub state : (rule signals ws : List ℕ) → StateIsRewritten f rule signals ws
   pub word : (rule signals ws : List ℕ) → WordIsRewritten f rule signals ws
+  pub signals : SignalsAreTested
   pub wind : WindIsExact
 
 -- Demand 3, of a run in which a record gets the word kept (broken).

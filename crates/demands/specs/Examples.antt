@@ -78,12 +78,18 @@ abbrev pub windRecord : (unit wind : ℕ) → List ℕ
 windRecord unit wind =
     0 ∷ 0 ∷ 0 ∷ 0 ∷ 0 ∷ 0 ∷ wind % 256 ∷ wind / 256 ∷ 0 ∷ 0 ∷ 0 ∷ unit ∷ 0 ∷ 0 ∷ 0 ∷ 0 ∷ []
 
--- the air temperature is at least, or below, a limit in 16 bits with a sign; it rains
+-- a signal of a channel, "at least" (0) or "below" (1) a limit in 16 bits with a sign
+abbrev pub signalOf : (channel sense limit : ℕ) → List ℕ
+signalOf channel sense limit = channel ∷ sense ∷ limit % 256 ∷ limit / 256 ∷ 0 ∷ 0 ∷ 0 ∷ 0 ∷ []
+
 abbrev pub temperature : (sense limit : ℕ) → List ℕ
-temperature sense limit = 1 ∷ sense ∷ limit % 256 ∷ limit / 256 ∷ 0 ∷ 0 ∷ 0 ∷ 0 ∷ []
+temperature sense limit = signalOf 1 sense limit
+
+abbrev pub windBelow : (limit : ℕ) → List ℕ
+windBelow limit = signalOf 2 1 limit
 
 abbrev pub raining : List ℕ
-raining = 5 ∷ 0 ∷ 1 ∷ 0 ∷ 0 ∷ 0 ∷ 0 ∷ 0 ∷ []
+raining = signalOf 5 0 1
 
 -- a log record with a temperature in 16 bits, and with rain
 abbrev pub airRecord : (reading rain : ℕ) → List ℕ
@@ -139,6 +145,12 @@ table =
     ∷ reads (temperature 1 (minus 10)) (airRecord (minus 10) 0) broken
     ∷ reads (temperature 1 (minus 10)) (airRecord (minus 11) 0) kept
     ∷ reads raining (airRecord 0 1) kept ∷ reads raining (airRecord 0 0) broken
+    -- a broken wire is neither hot nor cold, and a silent head neither strong nor weak wind; one less is a reading
+    ∷ reads (temperature 0 300) (airRecord 32767 0) broken ∷ reads (temperature 1 300) (airRecord 32767 0) broken
+    ∷ reads (temperature 0 300) (airRecord 32766 0) kept
+    ∷ winds 120 kilometresAnHour 65534 (65535 ∷ []) ∷ winds 120 metresASecond 65534 (65535 ∷ [])
+    ∷ reads (windBelow 120) (windRecord kilometresAnHour 65535) broken
+    ∷ reads (windBelow 120) (windRecord metresASecond 65535) broken
     -- how long rules A and B can stay open, one in which what has no upper end is not reached, and a nested one
     ∷ waits (ruleA 2) (within 2) ∷ waits ruleB never ∷ waits ruleUnreached (within 0) ∷ waits ruleNested (within 5)
     ∷ []

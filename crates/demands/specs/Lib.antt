@@ -3,6 +3,7 @@ pub mod Logs
 pub mod Rewritten
 pub mod Areas
 pub mod Tables
+pub mod Signals
 pub mod Demands
 pub mod Asking
 pub mod OwnWork

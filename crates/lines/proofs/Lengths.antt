@@ -2,13 +2,16 @@
 -- Assumes nothing.
 use mathlib.Core.Path.{_≡_, refl}
 use mathlib.Core.Bool.{Bool, true, false, cond}
+use mathlib.Core.Logic.{_⊎_, inl, inr}
 use mathlib.Core.List.{List, [], _∷_, _++_}
-use Prim.Native.Nat.{ℕ, zero, suc, _+_, _/_, _%_, _^_, _≤_, _<_}
+use Prim.Native.Nat.{ℕ, zero, suc, _+_, _-_, _*_, _/_, _%_, _^_, _≤_, _<_}
 use native.Mathlib.Nat.{pow-succ', lt-of-lt-of-le}
 use native.Mathlib.Omega.{arith}
 use lib.Dec.{ltb, lit≤}
 use lib.ListN.{length, getD, length-append}
 use borrow.Author.Tests.{ltb-false}
+use Rattle.ground.specs.Fold.{some}
+use Rattle.ground.proofs.Folds.{less-or-not}
 use Rattle.ground.proofs.ByteLaws.{little-lt}
 use Rattle.watcher.specs.declared.state.Watcher.{Watcher}
 use Rattle.watcher.specs.declared.state.Word.{Word}
@@ -23,11 +26,13 @@ use Rattle.watcher.specs.declared.state.Answer.the-variants as answer
 use Rattle.watcher.specs.declared.state.End.{End}
 use Rattle.watcher.specs.declared.state.End.the-variants as end
 use Rattle.watcher.specs.Numbers.{refusalNumber}
+use Rattle.watcher.specs.Limits.{mostSignals}
 use Rattle.watcher.specs.Records.{timeOf}
 use Rattle.watcher.specs.Calls.{askOf}
 use Rattle.watcher.proofs.Numbers.{number-most}
-use Rattle.lines.specs.Text.{digits, decimal, space, newline, wordText, verdictText, refusedLine, foundLine}
-use Rattle.lines.specs.Text.{toldLine, answerLine, askText, endText, endLine}
+use Rattle.lines.specs.Text.{digits, decimal, listedText, numbersText, space, newline, wordText, verdictText}
+use Rattle.lines.specs.Text.{refusedLine, foundLine, toldLine, answerLine, askText, endText, endLine}
+use Rattle.lines.specs.Blind.{isBlind, blindText}
 use Rattle.lines.specs.Lines.{behindText, pieceLine}
 use Rattle.lines.specs.Listing.{lineBytes}
 
@@ -50,6 +55,13 @@ decimal-short : (d n : ℕ) → n < 10 ^ suc d → length (decimal n) ≤ suc d
 unfolding decimal
 decimal-short d n h = digits-short (n + 1) d n h
 
+-- a number that is listed has a comma at most before its digits
+listed-short : (here lower : Bool) (k : ℕ) → length (listedText here lower k) ≤ 1 + length (decimal k)
+unfolding listedText
+listed-short false lower k = omega arith
+listed-short true false k = omega arith
+listed-short true true k = omega arith
+
 -- a word, a verdict, and a time
 word-short : (w : Word) → length (wordText w) ≤ 7
 unfolding wordText
@@ -71,10 +83,50 @@ unfolding askText
 ask-short (end.Closed v) = omega (arith, verdict-short v)
 ask-short (end.Refused r) = lit≤ tt
 
-behind-short : (more : Bool) (w : Watcher) (ws : List ℕ) → length (behindText more w ws) ≤ 12
+-- of the numbers below n, those below 10 have a comma and a digit at most, the others a digit more
+numbers-short : (test : ℕ → Bool) (n : ℕ) → n ≤ 100 → length (numbersText test n) ≤ 2 * n + (n - 10)
+unfolding numbersText
+numbers-short test zero h = lit≤ tt
+numbers-short test (suc k) h = go (less-or-not k 10) (numbers-short test k (omega arith))
+  where
+    go : (k < 10) ⊎ (10 ≤ k) → length (numbersText test k) ≤ 2 * k + (k - 10)
+        → length (numbersText test k ++ listedText (test k) (some k test) k) ≤ 2 * suc k + (suc k - 10)
+    go (inl l) s =
+        omega (
+          arith,
+          s,
+          length-append (numbersText test k) (listedText (test k) (some k test) k),
+          listed-short (test k) (some k test) k,
+          decimal-short 0 k l,
+        )
+    go (inr l) s =
+        omega (
+          arith,
+          s,
+          length-append (numbersText test k) (listedText (test k) (some k test) k),
+          listed-short (test k) (some k test) k,
+          decimal-short 1 k (omega arith),
+        )
+
+blind-short : (blind : ℕ → Bool) → length (blindText blind) ≤ 45
+unfolding blindText
+blind-short blind = go (some mostSignals blind) (numbers-short blind mostSignals (lit≤ tt))
+  where
+    go : (b : Bool) → length (numbersText blind mostSignals) ≤ 38
+        → length (cond b ((space ∷ 98 ∷ 108 ∷ 105 ∷ 110 ∷ 100 ∷ space ∷ []) ++ numbersText blind mostSignals) []) ≤ 45
+    go true s = omega (arith, s)
+    go false s = lit≤ tt
+
+behind-short : (piece : List ℕ) (more : Bool) (w : Watcher) (ws : List ℕ) → length (behindText piece more w ws) ≤ 57
 unfolding behindText
-behind-short false w ws = lit≤ tt
-behind-short true w ws = ask-short (askOf w ws)
+behind-short piece false w ws = lit≤ tt
+behind-short piece true w ws =
+    omega (
+      arith,
+      length-append (askText (askOf w ws)) (blindText (isBlind (w .list) (w .signals) piece)),
+      ask-short (askOf w ws),
+      blind-short (isBlind (w .list) (w .signals) piece),
+    )
 
 -- a refusal's line
 refused-short : (r : Refusal) → length (refusedLine r) ≤ 11
@@ -93,7 +145,7 @@ found-fits found.Fine = lit≤ tt
 found-fits (found.Refused r) = omega (arith, refused-short r)
 
 answer-fits : (piece : List ℕ) → ((i : ℕ) → getD piece i 0 < 256) → (behind : List ℕ)
-    → length behind ≤ 12 → (a : Answer) → length (answerLine (timeOf piece) behind a) ≤ lineBytes
+    → length behind ≤ 57 → (a : Answer) → length (answerLine (timeOf piece) behind a) ≤ lineBytes
 unfolding answerLine toldLine
 answer-fits piece h behind s (answer.Accepted report) =
     omega (
@@ -109,7 +161,7 @@ answer-fits piece h behind s (answer.Refused r) = omega (arith, refused-short r)
 pub piece-fits : (piece : List ℕ) → ((i : ℕ) → getD piece i 0 < 256) → (more : Bool) (f : Fed × List ℕ)
     → length (pieceLine piece more f) ≤ lineBytes
 unfolding pieceLine
-piece-fits piece h more f = answer-fits piece h _ (behind-short more (f .0 .next) (f .1)) (f .0 .answer)
+piece-fits piece h more f = answer-fits piece h _ (behind-short piece more (f .0 .next) (f .1)) (f .0 .answer)
 
 end-short : (e : End) → length (endText e) ≤ 11
 unfolding endText

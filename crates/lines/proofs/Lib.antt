@@ -1,4 +1,7 @@
 pub mod Texts
+pub mod Numbers
+pub mod Blinds
+pub mod BlindExamples
 pub mod Turned
 pub mod RowLaws
 pub mod OnlyOne

@@ -1,60 +1,29 @@
 -- Laws of the lines of rows.
 -- Assumes nothing.
 use mathlib.Core.Path.{_≡_, sym, ap, ap₂, _∙_}
-use mathlib.Core.Bool.{Bool, true, false, _||_, cond}
-use mathlib.Core.List.{List, [], _∷_, _++_}
-use Prim.Native.Nat.{ℕ, _+_, _≤_, _<_}
-use native.Mathlib.Numerals.{add-one}
+use mathlib.Core.Bool.{Bool, cond}
+use mathlib.Core.List.{List, [], _++_}
+use Prim.Native.Nat.{ℕ, _≤_, _<_}
 use lib.Dec.{eqb}
 use borrow.Author.Tests.{lt-ltb, le-ltb, eq-eqb, ne-eqb}
-use Rattle.ground.specs.Fold.{fold, some}
+use Rattle.ground.specs.Fold.{some}
 use Rattle.ground.specs.Bits.{bitAt}
 use Rattle.watcher.specs.declared.state.Watcher.{Watcher}
 use Rattle.watcher.specs.Limits.{mostRecords}
 use Rattle.watcher.specs.State.{parametersOf}
-use Rattle.lines.specs.Text.{decimal}
+use Rattle.lines.specs.Text.{numbersText}
 use Rattle.lines.specs.inside.Puts.{putText}
-use Rattle.lines.specs.Rows.{termText, termsText, noneText, pastLine, remainderLine, rowsOf, rowOf, rowLine}
+use Rattle.lines.specs.Rows.{noneText, pastLine, remainderLine, rowsOf, rowOf, rowLine}
 use Rattle.lines.proofs.Texts.{text-then, text-placed}
 
-module _ (o : ℕ × List ℕ) (k : ℕ) where
-  -- a term that is not there, the first one, and a later one
-  pub term-none : (here lower : Bool) → here ≡ false → o ≡ putText o (termText here lower k)
-  unfolding putText termText
-  term-none here lower e = sym (ap (λ b. putText o (termText b lower k)) e)
-
-  pub term-first : (p : ℕ × List ℕ) (here lower : Bool) → here ≡ true → lower ≡ false → p ≡ putText o (decimal k)
-      → p ≡ putText o (termText here lower k)
-  unfolding termText
-  term-first p here lower e f h = h ∙ sym (ap₂ (λ b d. putText o (termText b d k)) e f)
-
-  pub term-later : (p q : ℕ × List ℕ) (here lower : Bool) → here ≡ true → lower ≡ true → p ≡ putText o (44 ∷ [])
-      → q ≡ putText p (decimal k) → q ≡ putText o (termText here lower k)
-  unfolding termText
-  term-later p q here lower e f h l =
-      text-then o p q (44 ∷ []) (decimal k) h l ∙ sym (ap₂ (λ b d. putText o (termText b d k)) e f)
-
--- one term more
-module _ (row : List ℕ) (k : ℕ) (here any : Bool) where
-  pub terms-more : (o p q : ℕ × List ℕ) → here ≡ bitAt row k → any ≡ some k (bitAt row)
-      → p ≡ putText o (termsText row k) → q ≡ putText p (termText here any k) → q ≡ putText o (termsText row (k + 1))
-  unfolding termsText
-  terms-more o p q e f h l =
-      text-then o p q (termsText row k) (termText (bitAt row k) (some k (bitAt row)) k) h
-      (l ∙ ap₂ (λ b d. putText p (termText b d k)) e f)
-      ∙ ap (λ n. putText o (termsText row n)) (sym (add-one k))
-
-  pub any-more : here ≡ bitAt row k → any ≡ some k (bitAt row) → (any || here) ≡ some (k + 1) (bitAt row)
-  unfolding fold
-  any-more e f = ap₂ _||_ f e ∙ ap (λ n. some n (bitAt row)) (sym (add-one k))
-
 -- all terms, and a dash where there is none
-pub terms-done : (row : List ℕ) (k n : ℕ) (o p q : ℕ × List ℕ) (any : Bool) → k ≡ n → any ≡ some k (bitAt row)
-    → p ≡ putText o (termsText row k) → q ≡ putText p (noneText any)
-    → q ≡ putText o (termsText row n ++ noneText (some n (bitAt row)))
-terms-done row k n o p q any e f h l =
-    text-then o p q (termsText row k) (noneText (some k (bitAt row))) h (l ∙ ap (λ b. putText p (noneText b)) f)
-    ∙ ap (λ x. putText o (termsText row x ++ noneText (some x (bitAt row)))) e
+pub row-done : (row : List ℕ) (k n : ℕ) (o p q : ℕ × List ℕ) (any : Bool) → k ≡ n → any ≡ some k (bitAt row)
+    → p ≡ putText o (numbersText (bitAt row) k) → q ≡ putText p (noneText any)
+    → q ≡ putText o (numbersText (bitAt row) n ++ noneText (some n (bitAt row)))
+row-done row k n o p q any e f h l =
+    text-then o p q (numbersText (bitAt row) k) (noneText (some k (bitAt row))) h
+    (l ∙ ap (λ b. putText p (noneText b)) f)
+    ∙ ap (λ x. putText o (numbersText (bitAt row) x ++ noneText (some x (bitAt row)))) e
 
 -- how many past rows a state has
 pub rows-none : (w : Watcher) → mostRecords < w .records → 0 ≡ rowsOf w

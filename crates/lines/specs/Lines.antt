@@ -12,6 +12,7 @@ use Rattle.watcher.specs.Calls.{startOf, feedOf, askOf}
 use Rattle.lines.specs.declared.turns.Opened.{Opened}
 use Rattle.lines.specs.declared.turns.Turn.{Turn}
 use Rattle.lines.specs.Text.{foundLine, answerLine, askText, endLine}
+use Rattle.lines.specs.Blind.{isBlind, blindText}
 
 -- a text at the beginning of a buffer: what does not fit is cut off, and what is behind stays
 unfoldable pub placed : (out text : List ℕ) → ℕ × List ℕ
@@ -30,13 +31,13 @@ unfoldable pub startLine : (rule signals ws out : List ℕ) → Opened × List �
 startLine rule signals ws out = startedLine out (startOf rule signals ws)
 
 -- what stands behind the word of a record, of the state and area after it: nothing, or more
-unfoldable pub behindText : (more : Bool) → Watcher → (ws : List ℕ) → List ℕ
-behindText false w ws = []
-behindText true w ws = askText (askOf w ws)
+unfoldable pub behindText : (piece : List ℕ) (more : Bool) → Watcher → (ws : List ℕ) → List ℕ
+behindText piece false w ws = []
+behindText piece true w ws = askText (askOf w ws) ++ blindText (isBlind (w .list) (w .signals) piece)
 
 -- the line of a piece, by what feeding it hands back
 unfoldable pub pieceLine : (piece : List ℕ) (more : Bool) → Fed × List ℕ → List ℕ
-pieceLine piece more f = answerLine (timeOf piece) (behindText more (f .0 .next) (f .1)) (f .0 .answer)
+pieceLine piece more f = answerLine (timeOf piece) (behindText piece more (f .0 .next) (f .1)) (f .0 .answer)
 
 -- feed a piece
 unfoldable pub fedLine : (piece : List ℕ) (more : Bool) (out : List ℕ) → Fed × List ℕ → Turn × List ℕ × List ℕ

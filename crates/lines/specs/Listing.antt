@@ -33,7 +33,7 @@ listing more rule signals log = listingOn more (replicate areaWords 0) rule sign
 
 -- bytes that no line has more of
 abbrev pub lineBytes : ℕ
-lineBytes = 32
+lineBytes = 80
 
 -- what the functions print, called one after another, each with a buffer that is the same at its entry
 unfoldable pub printedLog : (more : Bool) → Watcher → (ws out : List ℕ) → List (List ℕ) → List ℕ

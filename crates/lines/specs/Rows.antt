@@ -1,7 +1,7 @@
 -- The line of a row of the work area, as `watch` prints it where the word `rows` asks for it.
 use mathlib.Core.Bool.{Bool, true, false, cond}
 use mathlib.Core.List.{List, [], _∷_, _++_}
-use Prim.Native.Nat.{ℕ, zero, suc, _^_}
+use Prim.Native.Nat.{ℕ, _^_}
 use lib.Dec.{eqb, ltb}
 use Rattle.ground.specs.Fold.{some}
 use Rattle.ground.specs.Bits.{bitAt}
@@ -9,21 +9,10 @@ use Rattle.forms.specs.Area.{rowAt}
 use Rattle.watcher.specs.declared.state.Watcher.{Watcher}
 use Rattle.watcher.specs.Limits.{mostRecords, mostParameters}
 use Rattle.watcher.specs.State.{parametersOf}
-use Rattle.lines.specs.Text.{decimal, space, newline}
+use Rattle.lines.specs.Text.{decimal, numbersText, space, newline}
 use Rattle.lines.specs.Lines.{placed}
 
--- the number of a term that is there, behind a comma where a lower one is
-unfoldable pub termText : (here lower : Bool) → ℕ → List ℕ
-termText false lower k = []
-termText true false k = decimal k
-termText true true k = (44 ∷ []) ++ decimal k
-
--- the terms of a row below n, rising
-unfoldable pub termsText : List ℕ → ℕ → List ℕ
-termsText row zero = []
-termsText row (suc k) = termsText row k ++ termText (bitAt row k) (some k (bitAt row)) k
-
--- a dash where a row has none
+-- a dash where a row has no term
 unfoldable pub noneText : Bool → List ℕ
 noneText true = []
 noneText false = 45 ∷ []
@@ -32,8 +21,9 @@ noneText false = 45 ∷ []
 abbrev pub rowBits : ℕ
 rowBits = 2 ^ mostParameters
 
+-- the numbers of a row's terms
 unfoldable pub rowText : List ℕ → List ℕ
-rowText row = termsText row rowBits ++ noneText (some rowBits (bitAt row))
+rowText row = numbersText (bitAt row) rowBits ++ noneText (some rowBits (bitAt row))
 
 -- behind the name of a row: a space, its terms, and the end of the line
 unfoldable pub restOfLine : (ws : List ℕ) → ℕ → List ℕ

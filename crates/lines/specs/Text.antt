@@ -1,8 +1,9 @@
 -- The lines that the programs print (document 01, "The watching program"), as ASCII bytes.
-use mathlib.Core.Bool.{cond}
+use mathlib.Core.Bool.{Bool, true, false, cond}
 use mathlib.Core.List.{List, [], _∷_, _++_}
 use Prim.Native.Nat.{ℕ, zero, suc, _+_, _/_, _%_}
 use lib.Dec.{ltb}
+use Rattle.ground.specs.Fold.{some}
 use Rattle.watcher.specs.declared.state.Word.{Word}
 use Rattle.watcher.specs.declared.state.Word.the-variants as word
 use Rattle.watcher.specs.declared.state.Verdict.{Verdict}
@@ -23,6 +24,17 @@ digits (suc k) n = cond (ltb n 10) ((48 + n) ∷ []) (digits k (n / 10) ++ ((48 
 -- a number in decimal digits; n + 1 of them are always enough
 unfoldable pub decimal : ℕ → List ℕ
 decimal n = digits (n + 1) n
+
+-- a number that is listed, behind a comma where a lower one is
+unfoldable pub listedText : (here lower : Bool) → ℕ → List ℕ
+listedText false lower k = []
+listedText true false k = decimal k
+listedText true true k = (44 ∷ []) ++ decimal k
+
+-- the numbers below n that pass a test, rising
+unfoldable pub numbersText : (test : ℕ → Bool) → ℕ → List ℕ
+numbersText test zero = []
+numbersText test (suc k) = numbersText test k ++ listedText (test k) (some k test) k
 
 -- "kept", "broken", "pending"
 unfoldable pub wordText : Word → List ℕ

@@ -1,4 +1,5 @@
 // The lines that the programs print, each put into a lent buffer.
+mod blind;
 mod records;
 pub mod rows;
 mod text;

@@ -1,4 +1,5 @@
 // The lines of the rows of a work area.
+use crate::text::put_listed;
 use crate::text::put_number;
 use crate::text::put_text;
 use forms::area::load;
@@ -8,7 +9,7 @@ ghost use mathlib.Core.Path.{_≡_};
 ghost use Prim.Native.Nat.{_<_};
 ghost use Rattle.ground.specs.Bits.{bitAt};
 ghost use Rattle.lines.specs.inside.Puts.{putText};
-ghost use Rattle.lines.specs.Rows.{termText, noneText, rowBits, rowText, restOfLine, pastLine, remainderLine};
+ghost use Rattle.lines.specs.Rows.{noneText, rowBits, rowText, restOfLine, pastLine, remainderLine};
 ghost use Rattle.lines.specs.Rows.{rowsOf, rowOf};
 ghost use Rattle.lines.specs.Clauses.{RowLineClause};
 
@@ -24,20 +25,6 @@ fn has_term(row: &[u64; 64], k: usize) -> bool
     ensures { λ r. ⌜ r ≡ bitAt (now (row .entry)) k ⌝ }
 {
     (row[k / 64] >> (k % 64)) % 2 == 1
-}
-
-// A term that is there, behind a comma where a lower one is.
-fn put_term(out: &mut [u8], at: usize, here: bool, lower: bool, k: usize) -> usize
-    ensures { λ r. ⌜ (r, now (out .exit)) ≡ putText (at, now (out .entry)) (termText here lower k) ⌝ }
-{
-    if here {
-        if lower {
-            let next = put_text(out, at, b",");
-            return put_number(out, next, k);
-        }
-        return put_number(out, at, k);
-    }
-    at
 }
 
 // A dash where there is no term.
@@ -58,7 +45,7 @@ fn put_row(out: &mut [u8], at: usize, row: &[u64; 64]) -> usize
     let mut any = false;
     for k in 0..ROW_BITS {
         let here = has_term(row, k);
-        next = put_term(out, next, here, any, k);
+        next = put_listed(out, next, here, any, k);
         any = any | here;
     }
     put_none(out, next, any)

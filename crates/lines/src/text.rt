@@ -7,7 +7,7 @@ use watcher::state::Word;
 ghost use mathlib.Core.Path.{_≡_};
 ghost use Prim.Native.Nat.{ℕ, _<_};
 ghost use Rattle.lines.specs.inside.Puts.{putByte, putText};
-ghost use Rattle.lines.specs.Text.{digits, decimal, wordText, verdictText, refusedLine};
+ghost use Rattle.lines.specs.Text.{digits, decimal, listedText, wordText, verdictText, refusedLine};
 ghost use Rattle.lines.specs.Text.{foundLine, askText, endText, endLine};
 
 // A byte.
@@ -48,6 +48,20 @@ pub(crate) fn put_number(out: &mut [u8], at: usize, n: usize) -> usize
     ensures { λ r. ⌜ (r, now (out .exit)) ≡ putText (at, now (out .entry)) (decimal n) ⌝ }
 {
     put_digits(out, at, n)
+}
+
+// A number that is listed, behind a comma where a lower one is.
+pub(crate) fn put_listed(out: &mut [u8], at: usize, here: bool, lower: bool, k: usize) -> usize
+    ensures { λ r. ⌜ (r, now (out .exit)) ≡ putText (at, now (out .entry)) (listedText here lower k) ⌝ }
+{
+    if here {
+        if lower {
+            let next = put_text(out, at, b",");
+            return put_number(out, next, k);
+        }
+        return put_number(out, at, k);
+    }
+    at
 }
 
 // A word.

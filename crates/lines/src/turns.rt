@@ -2,12 +2,11 @@
 use crate::records::put_answer;
 use crate::text::put_end;
 use crate::text::put_found;
-use watcher::readings::time_of;
 use watcher::state::Watcher;
 ghost use Rattle.lines.specs.Clauses.{LineBytesClause, StartLineClause, FeedLineClause, AskLineClause};
 
 // Bytes that no line has more of.
-pub const LINE_BYTES: usize = 32;
+pub const LINE_BYTES: usize = 80;
 
 // What start hands back: the state, whether it is ready, and how many bytes its line has.
 pub struct Opened {
@@ -59,7 +58,7 @@ pub fn feed_line(
     let fed = watcher.feed(piece, area);
     let answer = fed.answer;
     let next = fed.next;
-    let length = put_answer(out, time_of(piece), answer, more, next, area);
+    let length = put_answer(out, piece, answer, more, next, area);
     Turn { next, length }
 }
 

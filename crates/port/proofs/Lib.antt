@@ -5,5 +5,6 @@ pub mod Layouts
 pub mod ReadBack
 pub mod Machines
 pub mod Exported
+pub mod Testing
 pub mod Feeding
 pub mod OnlyOne

@@ -5,7 +5,7 @@ use mathlib.Core.List.{List}
 use Prim.Native.Nat.{ℕ}
 use Rattle.ground.proofs.OnlyOne.{only-one}
 use Rattle.port.specs.Clauses.{StartClause, WouldRefuseClause, FeedClause, AskClause, CloseClause}
-use Rattle.port.specs.Clauses.{HorizonClause, RunClause}
+use Rattle.port.specs.Clauses.{HorizonClause, TestClause, RunClause}
 
 pub only-start : (rule signals bytes ws : List ℕ) (o o′ : ℕ × List ℕ × List ℕ) → StartClause rule signals bytes ws o
     → StartClause rule signals bytes ws o′ → o ≡ o′
@@ -29,6 +29,10 @@ only-close bytes ws = only-one _
 
 pub only-horizon : (bytes : List ℕ) (o o′ : ℕ) → HorizonClause bytes o → HorizonClause bytes o′ → o ≡ o′
 only-horizon bytes = only-one _
+
+pub only-test : (signals : List ℕ) (number : ℕ) (piece : List ℕ) (o o′ : ℕ) → TestClause signals number piece o
+    → TestClause signals number piece o′ → o ≡ o′
+only-test signals number piece = only-one _
 
 pub only-run : (rule signals log ws codes : List ℕ) (o o′ : ℕ × List ℕ × List ℕ)
     → RunClause rule signals log ws codes o → RunClause rule signals log ws codes o′ → o ≡ o′

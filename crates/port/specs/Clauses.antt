@@ -3,6 +3,7 @@ use mathlib.Core.Path.{_≡_}
 use mathlib.Core.List.{List}
 use Prim.Native.Nat.{ℕ}
 use Rattle.port.specs.Exports.{startBytes, refusalBytes, feedBytes, askBytes, closeBytes, horizonBytes}
+use Rattle.port.specs.Signals.{testBytes}
 use Rattle.port.specs.Whole.{runOf}
 
 -- starting a watcher: the code, the state's bytes and the work area
@@ -28,6 +29,10 @@ CloseClause bytes ws o = o ≡ closeBytes bytes ws
 -- how long the rule can stay open
 abbrev pub HorizonClause : List ℕ → ℕ → Type 0
 HorizonClause bytes o = o ≡ horizonBytes bytes
+
+-- testing a signal of a list in a log record
+abbrev pub TestClause : (signals : List ℕ) (number : ℕ) (piece : List ℕ) → ℕ → Type 0
+TestClause signals number piece o = o ≡ testBytes signals number piece
 
 -- running a whole log: the code of closing, the work area and the codes
 abbrev pub RunClause : (rule signals log ws codes : List ℕ) → ℕ × List ℕ × List ℕ → Type 0

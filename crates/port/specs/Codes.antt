@@ -1,6 +1,8 @@
--- The codes that exports answer: a word's or a verdict's, a refusal's number, and 0 where nothing is refused.
+-- The codes that exports answer: a word's or a verdict's, a test's, a refusal's number, and 0 where nothing is refused.
 use Prim.Native.Nat.{ℕ, _-_, _^_}
 use Rattle.meaning.specs.Horizon.{Horizon, within, never}
+use Rattle.watcher.specs.declared.readings.Tested.{Tested}
+use Rattle.watcher.specs.declared.readings.Tested.the-variants.{Holds, DoesNotHold, NoReading}
 use Rattle.watcher.specs.declared.state.Word.{Word}
 use Rattle.watcher.specs.declared.state.Word.the-variants as word
 use Rattle.watcher.specs.declared.state.Verdict.{Verdict}
@@ -25,6 +27,12 @@ abbrev pub wordCode : Word → ℕ
 wordCode word.Kept = 101
 wordCode word.Broken = 102
 wordCode word.Pending = 103
+
+-- the code of a test of a signal
+abbrev pub testCode : Tested → ℕ
+testCode Holds = 111
+testCode DoesNotHold = 112
+testCode NoReading = 113
 
 -- a verdict has the code of the word that says the same
 unfoldable pub verdictCode : Verdict → ℕ

@@ -1,4 +1,5 @@
 // The codes of answers.
+use watcher::readings::Tested;
 use watcher::state::Answer;
 use watcher::state::End;
 use watcher::state::Found;
@@ -7,7 +8,7 @@ use watcher::state::Wait;
 use watcher::state::Word;
 ghost use mathlib.Core.Path.{_≡_};
 ghost use Rattle.watcher.specs.Numbers.{refusalNumber, horizonFor};
-ghost use Rattle.port.specs.Codes.{wordCode, foundCode, toldOf, toldAt, toldCode, horizonCode};
+ghost use Rattle.port.specs.Codes.{wordCode, testCode, foundCode, toldOf, toldAt, toldCode, horizonCode};
 
 // What an answer tells: a word, or a refusal.
 pub(crate) enum Told {
@@ -39,6 +40,17 @@ pub(crate) fn word_code(word: Word) -> u8
         Word::Kept => 101,
         Word::Broken => 102,
         Word::Pending => 103,
+    }
+}
+
+// The code of a test of a signal.
+pub(crate) fn test_code(tested: Tested) -> u8
+    ensures { λ r. ⌜ r ≡ testCode tested ⌝ }
+{
+    match tested {
+        Tested::Holds => 111,
+        Tested::DoesNotHold => 112,
+        Tested::NoReading => 113,
     }
 }
 

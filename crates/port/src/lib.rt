@@ -2,4 +2,5 @@
 pub mod calls;
 mod codes;
 mod layout;
+pub mod signals;
 pub mod whole;

@@ -193,6 +193,11 @@ module _ (list rest : List ℕ) where
   unfolding ruleIn
   ruleIn-before n h = tab-cong n (nodeIn (list ++ rest)) (nodeIn list) (λ k l. node-before k (omega arith))
 
+-- a signal list that is not wrong has 1 to 16 records
+pub signals-whole : (list : List ℕ) → wrongSignals list ≡ false → Whole list
+unfolding wrongSignals
+signals-whole list e = length-fine list (neither _ _ e .0)
+
 -- lists that are accepted hold a rule of 1 to 16 records, in order, with at most 12 parameters and known signals
 module _ (rule signals : List ℕ) (fine : Accepted rule signals) where
   pub accepted-laid : (k : ℕ) → k < recordsOf rule → Keeps rule k
@@ -209,10 +214,8 @@ module _ (rule signals : List ℕ) (fine : Accepted rule signals) where
   unfolding manyParameters
   accepted-few = ltb-false 12 (parameters (ruleIn rule (recordsOf rule))) (fine .few)
 
-  -- the signal list has 1 to 16 records
   pub accepted-list : Whole signals
-  unfolding wrongSignals
-  accepted-list = length-fine signals (neither _ _ (fine .listed) .0)
+  accepted-list = signals-whole signals (fine .listed)
 
   pub accepted-signals : (k s : ℕ) → nodeAt (ruleIn rule (recordsOf rule)) k ≡ signal s
       → (s < recordsOf signals) × (s < 16)

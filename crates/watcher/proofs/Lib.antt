@@ -2,6 +2,8 @@ pub mod Numbers
 pub mod Order
 pub mod RecordLaws
 pub mod Channels
+pub mod Tests
+pub mod TestExamples
 pub mod Speed
 pub mod Decoded
 pub mod Places

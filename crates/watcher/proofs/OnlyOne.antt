@@ -7,6 +7,7 @@ use Prim.Native.Nat.{ℕ}
 use Rattle.ground.proofs.OnlyOne.{only-one}
 use Rattle.meaning.specs.Rule.{Entry}
 use Rattle.rewriting.specs.declared.step.Moment.{Moment}
+use Rattle.watcher.specs.declared.readings.Tested.{Tested}
 use Rattle.watcher.specs.declared.state.Watcher.{Watcher}
 use Rattle.watcher.specs.declared.state.Started.{Started}
 use Rattle.watcher.specs.declared.state.Fed.{Fed}
@@ -21,7 +22,8 @@ use Rattle.watcher.specs.declared.state.Phase.{Phase}
 use Rattle.watcher.specs.declared.state.Limits.{Limits}
 use Rattle.watcher.specs.Clauses.{LimitsClause, IsRefusedClause, WordClause, LastClause, ZeroStateClause}
 use Rattle.watcher.specs.Clauses.{CheckRuleClause, CheckListsClause, NumberClause}
-use Rattle.watcher.specs.Clauses.{WrongRecordClause, TimeOfClause, SignalWordClause}
+use Rattle.watcher.specs.Clauses.{WrongRecordClause, TimeOfClause, WrongSignalsClause, TestSignalClause}
+use Rattle.watcher.specs.Clauses.{SignalWordClause}
 use Rattle.watcher.specs.Clauses.{StartWouldRefuseClause, StartClause, WouldRefuseClause, FeedClause}
 use Rattle.watcher.specs.Clauses.{AskClause, CloseClause, HorizonClause}
 use Rattle.watcher.proofs.Numbers.{horizon-one}
@@ -57,6 +59,14 @@ only-wrong-record bytes = only-one _
 
 pub only-time-of : (bytes : List ℕ) (o o′ : ℕ) → TimeOfClause bytes o → TimeOfClause bytes o′ → o ≡ o′
 only-time-of bytes = only-one _
+
+pub only-wrong-signals : (list : List ℕ) (o o′ : Bool) → WrongSignalsClause list o → WrongSignalsClause list o′
+    → o ≡ o′
+only-wrong-signals list = only-one _
+
+pub only-test-signal : (list : List ℕ) (signals : ℕ) (bytes : List ℕ) (n : ℕ) (o o′ : Tested)
+    → TestSignalClause list signals bytes n o → TestSignalClause list signals bytes n o′ → o ≡ o′
+only-test-signal list signals bytes n = only-one _
 
 pub only-signal-word : (list : List ℕ) (signals : ℕ) (bytes : List ℕ) (o o′ : ℕ)
     → SignalWordClause list signals bytes o → SignalWordClause list signals bytes o′ → o ≡ o′

@@ -91,19 +91,13 @@ module _ (list : List ℕ) where
   abbrev wrong : Bool
   wrong = wrongLengthIn recordBytes mostSignals list
 
-  pub signals-length : wrong ≡ true → wrongSignals list ≡ true
+  pub signals-length : wrong ≡ true → true ≡ wrongSignals list
   unfolding wrongSignals
   signals-length a = rw a
 
-  pub signals-record : wrong ≡ false → some (recordsOf list) (signalBreaks list) ≡ true
-      → wrongSignals list ≡ true
+  pub signals-rest : wrong ≡ false → some (recordsOf list) (signalBreaks list) ≡ wrongSignals list
   unfolding wrongSignals
-  signals-record a b = rw (a, b)
-
-  pub signals-fine : wrong ≡ false → some (recordsOf list) (signalBreaks list) ≡ false
-      → wrongSignals list ≡ false
-  unfolding wrongSignals
-  signals-fine a b = rw (a, b)
+  signals-rest a = rw a
 
 -- names are looked up in as many signals as the list has
 pub names-in : (rule signals : List ℕ) (n : ℕ) (b t : Bool) → n ≡ recordsOf signals → b ≡ namesMissing rule n → b ≡ t

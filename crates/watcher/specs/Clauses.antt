@@ -5,6 +5,7 @@ use mathlib.Core.List.{List}
 use Prim.Native.Nat.{ℕ}
 use Rattle.rewriting.specs.declared.step.Moment.{Moment}
 use Rattle.rewriting.specs.Plans.{entryFor}
+use Rattle.watcher.specs.declared.readings.Tested.{Tested}
 use Rattle.watcher.specs.declared.state.Watcher.{Watcher}
 use Rattle.watcher.specs.declared.state.Started.{Started}
 use Rattle.watcher.specs.declared.state.Fed.{Fed}
@@ -19,7 +20,8 @@ use Rattle.watcher.specs.declared.state.Phase.{Phase}
 use Rattle.watcher.specs.declared.state.Limits.{Limits}
 use Rattle.watcher.specs.Limits.{limitsOf}
 use Rattle.watcher.specs.Lists.{ruleRefusal, listsRefusal}
-use Rattle.watcher.specs.Records.{wrongRecord, timeOf, signalWord}
+use Rattle.watcher.specs.Signals.{wrongSignals}
+use Rattle.watcher.specs.Records.{wrongRecord, timeOf, testOf, signalWord}
 use Rattle.watcher.specs.Numbers.{refusalNumber, decided, verdictValue, stageOf, lastIn, horizonFor}
 use Rattle.watcher.specs.State.{isRefused}
 use Rattle.watcher.specs.Calls.{zeroState, startRefusal, startOf, feedRefusal, feedOf, askOf, closeOf, waitOf}
@@ -63,6 +65,14 @@ WrongRecordClause bytes o = o ≡ wrongRecord bytes
 -- a log record's time
 abbrev pub TimeOfClause : List ℕ → ℕ → Type 0
 TimeOfClause bytes o = o ≡ timeOf bytes
+
+-- whether bytes are no signal list
+abbrev pub WrongSignalsClause : List ℕ → Bool → Type 0
+WrongSignalsClause list o = o ≡ wrongSignals list
+
+-- a test of a signal in a log record
+abbrev pub TestSignalClause : (list : List ℕ) (signals : ℕ) (bytes : List ℕ) (n : ℕ) → Tested → Type 0
+TestSignalClause list signals bytes n o = o ≡ testOf list signals bytes n
 
 -- the signals that hold in a log record
 abbrev pub SignalWordClause : (list : List ℕ) (signals : ℕ) (bytes : List ℕ) → ℕ → Type 0

@@ -6,6 +6,6 @@ mod lists;
 pub mod readings;
 pub mod refusals;
 mod shape;
-mod signals;
+pub mod signals;
 pub mod state;
 mod turns;

@@ -7,8 +7,8 @@ use crate::lists::wrong_length;
 use crate::readings::time_of;
 use crate::readings::wrong_record;
 use crate::shape::broken_state;
-use crate::signals::bad_signals;
 use crate::signals::names_missing;
+use crate::signals::wrong_signals;
 use crate::state::Found;
 use crate::state::Phase;
 use crate::state::Refusal;
@@ -49,10 +49,7 @@ pub fn check_lists(rule: &[u8], signals: &[u8]) -> Found
             if many_parameters(rule) {
                 return Found::Refused(Refusal::RuleParameters);
             }
-            if wrong_length(signals, Watcher::RECORD_BYTES, Watcher::SIGNALS) {
-                return Found::Refused(Refusal::SignalList);
-            }
-            if bad_signals(signals) {
+            if wrong_signals(signals) {
                 return Found::Refused(Refusal::SignalList);
             }
             if names_missing(rule, records_of(signals)) {

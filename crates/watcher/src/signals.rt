@@ -1,4 +1,5 @@
 // The signal list's layout, and the signals that a rule names.
+use crate::lists::wrong_length;
 use crate::state::Watcher;
 use ground::bytes::byte;
 use ground::bytes::four;
@@ -9,6 +10,7 @@ ghost use Prim.Native.Nat.{_<_};
 ghost use Rattle.ground.specs.Fold.{some};
 ghost use Rattle.watcher.specs.Rules.{recordsOf};
 ghost use Rattle.watcher.specs.Signals.{signalBreaks, namesMissingAt, namesMissing};
+ghost use Rattle.watcher.specs.Clauses.{WrongSignalsClause};
 
 // Whether record k breaks the layout.
 pub(crate) fn signal_breaks(list: &[u8], k: usize) -> bool
@@ -30,7 +32,7 @@ pub(crate) fn signal_breaks(list: &[u8], k: usize) -> bool
 }
 
 // Whether some record breaks the layout.
-pub(crate) fn bad_signals(list: &[u8]) -> bool
+fn bad_signals(list: &[u8]) -> bool
     ensures { λ r. ⌜ r ≡ some (recordsOf (now (list .entry))) (signalBreaks (now (list .entry))) ⌝ }
 {
     let records = list.len() / Watcher::RECORD_BYTES;
@@ -40,6 +42,16 @@ pub(crate) fn bad_signals(list: &[u8]) -> bool
         }
     }
     false
+}
+
+// Whether the bytes are no signal list: a wrong length, or a record that breaks the layout.
+pub fn wrong_signals(list: &[u8]) -> bool
+    ensures { λ r. ⌜ WrongSignalsClause (now (list .entry)) r ⌝ }
+{
+    if wrong_length(list, Watcher::RECORD_BYTES, Watcher::SIGNALS) {
+        return true;
+    }
+    bad_signals(list)
 }
 
 // Whether record k of the rule names a signal that a list of so many does not define.

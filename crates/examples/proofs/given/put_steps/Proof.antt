@@ -13,17 +13,11 @@ Inv-loop log₀ steps count n₀ log n = (n ≤ count) × (length log ≡ length
 abbrev μ-loop : tie.MeasureT-loop
 μ-loop log₀ steps count n₀ log n = count - n
 
-pieces-requires : tie.Need-pieces-requires Inv-loop μ-loop
-pieces-requires c κs = search needs
+add-count : tie.Need-add-count Inv-loop μ-loop
+add-count c = search needs
 
 loop-holds : tie.Need-loop-holds Inv-loop μ-loop
 loop-holds c = search needs
-
-mul-part : tie.Need-mul-part Inv-loop μ-loop
-mul-part c = search needs
-
-part-requires : tie.Need-part-requires Inv-loop μ-loop
-part-requires c κs = search needs
 
 put-step-requires : tie.Need-put-step-requires Inv-loop μ-loop
 put-step-requires c κs = search needs
@@ -52,10 +46,8 @@ put-steps-spec =
     (tie.spec
     Inv-loop
     μ-loop
-    pieces-requires
+    add-count
     loop-holds
-    mul-part
-    part-requires
     put-step-requires
     add-n
     loop-less

@@ -3,6 +3,7 @@
 use borrow.Author.Needs.{needs}
 use Rattle.watcher.specs.declared.state.Answer.the-variants.{Accepted, Refused}
 use Rattle.lines.specs.Text.{answerLine}
+use Rattle.lines.specs.Lines.{behindText}
 use Rattle.lines.proofs.Texts.{same-text}
 use Rattle.lines.proofs.records.put_answer.Statement.{statement}
 use Rattle.lines.proofs.records.put_answer.Tie as tie
@@ -27,7 +28,7 @@ unfolding answerLine
 returns c =
     let call = c .before .before in
     let case = call .before .before .before in
-    same-text (answerLine _ _) _ (Accepted _) _ _ (case .answer .given .1) (call .put-told .ensures)
+    same-text (answerLine _ (behindText _ _ _ _)) _ (Accepted _) _ _ (case .answer .given .1) (call .put-told .ensures)
 
 same-length-2 : tie.Need-same-length-2
 same-length-2 c = search needs

@@ -1,10 +1,18 @@
 -- `records::put_told` puts its parts one behind the other.
 -- Assumes nothing.
 use borrow.Author.Needs.{needs}
-use Rattle.lines.specs.Text.{toldLine}
-use Rattle.lines.proofs.Texts.{text-then}
+use mathlib.Core.Path.{sym}
+use Rattle.lines.specs.Text.{decimal, toldLine}
+use Rattle.lines.specs.Lines.{behindText}
+use Rattle.lines.proofs.Texts.{text-then, same-text}
 use Rattle.lines.proofs.records.put_told.Statement.{statement}
 use Rattle.lines.proofs.records.put_told.Tie as tie
+
+time-of-requires : tie.Need-time-of-requires
+time-of-requires c κs = search needs
+
+cast-put-number : tie.Need-cast-put-number
+cast-put-number c = search needs
 
 put-number-requires : tie.Need-put-number-requires
 put-number-requires c κs = search needs
@@ -37,15 +45,19 @@ returns c =
     let behind = end .before .before .before .before .before in
     let word = behind .before .before .before .before in
     let space = word .before .before .before .before in
-    text-then _ _ _ _ _ (space .before .before .before .before .before .put-number .ensures)
+    let number = space .before .before .before .before .before in
+    let time = same-text decimal _ _ _ _ (sym (number .before .time-of .ensures)) (number .put-number .ensures) in
+    text-then _ _ _ _ _ time
     (text-then _ _ _ _ _ (space .put-text .ensures)
     (text-then _ _ _ _ _ (word .put-word .ensures)
-    (text-then _ _ _ _ _ (behind .put-behind .ensures) (end .put-text2 .ensures))))
+    (text-then _ _ _ (behindText _ _ _ _) _ (behind .put-behind .ensures) (end .put-text2 .ensures))))
 
 pub put-told-spec : {M : Type 1} → statement M
 put-told-spec =
     tie.close
     (tie.spec
+    time-of-requires
+    cast-put-number
     put-number-requires
     slice-aggregate-put-text
     put-text-requires

@@ -8,9 +8,6 @@ use Rattle.lines.proofs.turns.feed_line.Tie as tie
 feed-requires : tie.Need-feed-requires
 feed-requires c κs = search needs
 
-time-of-requires : tie.Need-time-of-requires
-time-of-requires c κs = search needs
-
 put-answer-requires : tie.Need-put-answer-requires
 put-answer-requires c κs = search needs
 
@@ -23,11 +20,10 @@ same-length-2 c = search needs
 returns : tie.Need-returns
 returns c =
     let put = c .before .before in
-    let time = put .before .before in
-    let fed = time .before .before .before .before .before in
-    feed-turned _ _ _ _ _ _ _ _ _ _ (fed .feed .ensures) (time .time-of .ensures) (put .put-answer .ensures)
+    let fed = put .before .before .before .before .before .before in
+    feed-turned _ _ _ _ _ _ _ _ _ (fed .feed .ensures) (put .put-answer .ensures)
 
 pub feed-line-spec : {M : Type 1} → statement M
 feed-line-spec =
     tie.close
-    (tie.spec feed-requires time-of-requires put-answer-requires same-length same-length-2 returns)
+    (tie.spec feed-requires put-answer-requires same-length same-length-2 returns)

@@ -3,7 +3,7 @@
 use mathlib.Core.Path.{sym, _∙_}
 use borrow.Author.Needs.{needs}
 use Rattle.watcher.proofs.Refusing.{rule-most, refuse-rule, refuse-parameters, refuse-signals, refuse-missing}
-use Rattle.watcher.proofs.Refusing.{refuse-none, signals-length, signals-record, signals-fine, names-in}
+use Rattle.watcher.proofs.Refusing.{refuse-none, names-in}
 use Rattle.watcher.proofs.refusals.check_lists.Statement.{statement}
 use Rattle.watcher.proofs.refusals.check_lists.Tie as tie
 
@@ -26,8 +26,8 @@ returns c =
     refuse-parameters _ _ _ (t .before .before .check-rule .ensures) (t .enum-told .given .1)
     (sym (c .before .many-parameters .ensures) ∙ c .if1 .taken)
 
-wrong-length-requires : tie.Need-wrong-length-requires
-wrong-length-requires c κs = search needs
+wrong-signals-requires : tie.Need-wrong-signals-requires
+wrong-signals-requires c κs = search needs
 
 returns-2 : tie.Need-returns-2
 returns-2 c =
@@ -35,20 +35,7 @@ returns-2 c =
     let t = t₁ .before .before in
     refuse-signals _ _ _ (t .before .before .check-rule .ensures) (t .enum-told .given .1)
     (sym (t₁ .before .many-parameters .ensures) ∙ t₁ .if1 .left)
-    (signals-length _ (sym (c .before .wrong-length .ensures) ∙ c .if2 .taken))
-
-bad-signals-requires : tie.Need-bad-signals-requires
-bad-signals-requires c κs = search needs
-
-returns-3 : tie.Need-returns-3
-returns-3 c =
-    let t₂ = c .before .before in
-    let t₁ = t₂ .before .before in
-    let t = t₁ .before .before in
-    refuse-signals _ _ _ (t .before .before .check-rule .ensures) (t .enum-told .given .1)
-    (sym (t₁ .before .many-parameters .ensures) ∙ t₁ .if1 .left)
-    (signals-record _ (sym (t₂ .before .wrong-length .ensures) ∙ t₂ .if2 .left)
-    (sym (c .before .bad-signals .ensures) ∙ c .if3 .taken))
+    (sym (c .before .wrong-signals .ensures) ∙ c .if2 .taken)
 
 records-of-requires : tie.Need-records-of-requires
 records-of-requires c κs = search needs
@@ -56,32 +43,28 @@ records-of-requires c κs = search needs
 names-missing-requires : tie.Need-names-missing-requires
 names-missing-requires c κs = search needs
 
-returns-4 : tie.Need-returns-4
-returns-4 c =
-    let t₃ = c .before .before .before in
-    let t₂ = t₃ .before .before in
+returns-3 : tie.Need-returns-3
+returns-3 c =
+    let t₂ = c .before .before .before in
     let t₁ = t₂ .before .before in
     let t = t₁ .before .before in
     refuse-missing _ _ _ (t .before .before .check-rule .ensures) (t .enum-told .given .1)
     (sym (t₁ .before .many-parameters .ensures) ∙ t₁ .if1 .left)
-    (signals-fine _ (sym (t₂ .before .wrong-length .ensures) ∙ t₂ .if2 .left)
-    (sym (t₃ .before .bad-signals .ensures) ∙ t₃ .if3 .left))
-    (names-in _ _ _ _ _ (c .before .before .records-of .ensures) (c .before .names-missing .ensures) (c .if4 .taken))
+    (sym (t₂ .before .wrong-signals .ensures) ∙ t₂ .if2 .left)
+    (names-in _ _ _ _ _ (c .before .before .records-of .ensures) (c .before .names-missing .ensures) (c .if3 .taken))
+
+returns-4 : tie.Need-returns-4
+returns-4 c = refuse-rule _ _ _ (c .before .before .before .check-rule .ensures) _ (c .before .found .given .1)
 
 returns-5 : tie.Need-returns-5
-returns-5 c = refuse-rule _ _ _ (c .before .before .before .check-rule .ensures) _ (c .before .found .given .1)
-
-returns-6 : tie.Need-returns-6
-returns-6 c =
-    let t₃ = c .before .before .before in
-    let t₂ = t₃ .before .before in
+returns-5 c =
+    let t₂ = c .before .before .before in
     let t₁ = t₂ .before .before in
     let t = t₁ .before .before in
     refuse-none _ _ _ (t .before .before .check-rule .ensures) (t .enum-told .given .1)
     (sym (t₁ .before .many-parameters .ensures) ∙ t₁ .if1 .left)
-    (signals-fine _ (sym (t₂ .before .wrong-length .ensures) ∙ t₂ .if2 .left)
-    (sym (t₃ .before .bad-signals .ensures) ∙ t₃ .if3 .left))
-    (names-in _ _ _ _ _ (c .before .before .records-of .ensures) (c .before .names-missing .ensures) (c .if4 .left))
+    (sym (t₂ .before .wrong-signals .ensures) ∙ t₂ .if2 .left)
+    (names-in _ _ _ _ _ (c .before .before .records-of .ensures) (c .before .names-missing .ensures) (c .if3 .left))
 
 pub check-lists-spec : {M : Type 1} → statement M
 check-lists-spec =
@@ -92,12 +75,10 @@ check-lists-spec =
     enum-told
     many-parameters-requires
     returns
-    wrong-length-requires
+    wrong-signals-requires
     returns-2
-    bad-signals-requires
-    returns-3
     records-of-requires
     names-missing-requires
+    returns-3
     returns-4
-    returns-5
-    returns-6)
+    returns-5)

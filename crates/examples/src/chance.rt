@@ -1,3 +1,0 @@
-// Rules, signal lists and logs by chance, the same at each run.
-mod dice;
-pub(crate) mod random;
