@@ -62,13 +62,13 @@ fn compare(rule: &[u8], signals: &[u8], log: &[u8], area: &mut [u64], tally: &mu
 }
 
 // Makes one case by chance and compares it.
-fn random_case(seed: &mut u64, area: &mut [u64], tally: &mut [u64]) {
+fn random_case(case: u64, area: &mut [u64], tally: &mut [u64]) {
     let mut rule = [0u8; 136];
     let mut signals = [0u8; 136];
     let mut log = [0u8; 192];
-    let rule_count = random_rule(seed, &mut rule);
-    let signal_count = random_signals(seed, &mut signals);
-    let log_count = random_log(seed, &mut log);
+    let rule_count = random_rule(case, &mut rule);
+    let signal_count = random_signals(case, &mut signals);
+    let log_count = random_log(case, &mut log);
     compare(
         first(&rule, rule_count),
         first(&signals, signal_count),
@@ -80,8 +80,7 @@ fn random_case(seed: &mut u64, area: &mut [u64], tally: &mut [u64]) {
 
 // Compares so many cases.
 pub(crate) fn random_cases(cases: u64, area: &mut [u64], tally: &mut [u64]) {
-    let mut seed = 20031;
-    for done in 0..cases {
-        random_case(&mut seed, area, tally);
+    for case in 0..cases {
+        random_case(case, area, tally);
     }
 }

@@ -8,11 +8,11 @@ use Rattle.chance.proofs.cases.compare.random_cases.Statement.{statemen
 use Rattle.chance.proofs.cases.compare.random_cases.Tie as tie
 
 abbrev Inv-loop : tie.InvT-loop
-Inv-loop cases area₀ tally₀ seed₀ done₀ area tally seed done =
+Inv-loop cases area₀ tally₀ case₀ area tally case =
     (length area ≡ length area₀) × (length tally ≡ length tally₀)
 
 abbrev μ-loop : tie.MeasureT-loop
-μ-loop cases area₀ tally₀ seed₀ done₀ area tally seed done = cases - done
+μ-loop cases area₀ tally₀ case₀ area tally case = cases - case
 
 loop-holds : tie.Need-loop-holds Inv-loop μ-loop
 loop-holds c = search needs
@@ -20,8 +20,8 @@ loop-holds c = search needs
 random-case-requires : tie.Need-random-case-requires Inv-loop μ-loop
 random-case-requires c κs = search needs
 
-add-done : tie.Need-add-done Inv-loop μ-loop
-add-done c = search needs
+add-case : tie.Need-add-case Inv-loop μ-loop
+add-case c = search needs
 
 loop-less : tie.Need-loop-less Inv-loop μ-loop
 loop-less c = search needs
@@ -46,7 +46,7 @@ random-cases-spec =
     μ-loop
     loop-holds
     random-case-requires
-    add-done
+    add-case
     loop-less
     loop-again
     same-length

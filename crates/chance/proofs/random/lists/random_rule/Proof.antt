@@ -8,10 +8,13 @@ use Rattle.chance.proofs.random.lists.random_rule.Statement.{statement}
 use Rattle.chance.proofs.random.lists.random_rule.Tie as tie
 
 abbrev Inv-loop : tie.InvT-loop
-Inv-loop seed₀ rule₀ count k₀ seed rule k = (k ≤ count) × (length rule ≡ length rule₀)
+Inv-loop case rule₀ count k₀ rule k = (k ≤ count) × (length rule ≡ length rule₀)
 
 abbrev μ-loop : tie.MeasureT-loop
-μ-loop seed₀ rule₀ count k₀ seed rule k = count - k
+μ-loop case rule₀ count k₀ rule k = count - k
+
+face-requires : tie.Need-face-requires Inv-loop μ-loop
+face-requires c κs = search needs
 
 records-requires : tie.Need-records-requires Inv-loop μ-loop
 records-requires c κs = search needs
@@ -37,11 +40,17 @@ loop-less c = search needs
 loop-again : tie.Need-loop-again Inv-loop μ-loop
 loop-again c = search needs
 
+face-requires-2 : tie.Need-face-requires-2 Inv-loop μ-loop
+face-requires-2 c κs = search needs
+
 mul-damage : tie.Need-mul-damage Inv-loop μ-loop
 mul-damage c = search needs
 
 damage-requires : tie.Need-damage-requires Inv-loop μ-loop
 damage-requires c κs = search needs
+
+face-requires-3 : tie.Need-face-requires-3 Inv-loop μ-loop
+face-requires-3 c κs = search needs
 
 mul-length : tie.Need-mul-length Inv-loop μ-loop
 mul-length c = search needs
@@ -61,6 +70,7 @@ random-rule-spec =
     (tie.spec
     Inv-loop
     μ-loop
+    face-requires
     records-requires
     loop-holds
     cast-rule-record
@@ -69,8 +79,10 @@ random-rule-spec =
     add-k
     loop-less
     loop-again
+    face-requires-2
     mul-damage
     damage-requires
+    face-requires-3
     mul-length
     length-requires
     same-length

@@ -8,10 +8,13 @@ use Rattle.chance.proofs.random.lists.random_signals.Statement.{stateme
 use Rattle.chance.proofs.random.lists.random_signals.Tie as tie
 
 abbrev Inv-loop : tie.InvT-loop
-Inv-loop seed₀ signals₀ count n₀ seed signals n = (n ≤ count) × (length signals ≡ length signals₀)
+Inv-loop case signals₀ count n₀ signals n = (n ≤ count) × (length signals ≡ length signals₀)
 
 abbrev μ-loop : tie.MeasureT-loop
-μ-loop seed₀ signals₀ count n₀ seed signals n = count - n
+μ-loop case signals₀ count n₀ signals n = count - n
+
+face-requires : tie.Need-face-requires Inv-loop μ-loop
+face-requires c κs = search needs
 
 records-requires : tie.Need-records-requires Inv-loop μ-loop
 records-requires c κs = search needs
@@ -31,11 +34,17 @@ loop-less c = search needs
 loop-again : tie.Need-loop-again Inv-loop μ-loop
 loop-again c = search needs
 
+face-requires-2 : tie.Need-face-requires-2 Inv-loop μ-loop
+face-requires-2 c κs = search needs
+
 mul-damage : tie.Need-mul-damage Inv-loop μ-loop
 mul-damage c = search needs
 
 damage-requires : tie.Need-damage-requires Inv-loop μ-loop
 damage-requires c κs = search needs
+
+face-requires-3 : tie.Need-face-requires-3 Inv-loop μ-loop
+face-requires-3 c κs = search needs
 
 mul-length : tie.Need-mul-length Inv-loop μ-loop
 mul-length c = search needs
@@ -55,14 +64,17 @@ random-signals-spec =
     (tie.spec
     Inv-loop
     μ-loop
+    face-requires
     records-requires
     loop-holds
     signal-record-requires
     add-n
     loop-less
     loop-again
+    face-requires-2
     mul-damage
     damage-requires
+    face-requires-3
     mul-length
     length-requires
     same-length
