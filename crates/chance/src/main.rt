@@ -1,4 +1,6 @@
 // Runs the watcher on cases by chance beside a second evaluator, and counts the answers.
+#![tactic(auto)]
+
 mod answers;
 mod cases;
 mod judge;

@@ -1,4 +1,6 @@
 // Runs the watcher on document 01's examples, and on what it and document 02 say of readings.
+#![tactic(auto)]
+
 mod answers;
 mod given;
 mod listed;

@@ -1,4 +1,6 @@
 // Forms over up to 12 parameters as rows of 64 words, and rows in a lent area.
+#![tactic(auto)]
+
 pub mod area;
 pub mod join;
 pub mod rows;

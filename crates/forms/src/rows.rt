@@ -8,7 +8,7 @@ use crate::join::and;
 use crate::scan::next_term;
 
 // Which constant a form is, if any.
-#[derive(Drop)]
+#[derive(Clone, Copy)]
 pub enum Truth {
     False,
     True,

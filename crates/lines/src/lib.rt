@@ -1,4 +1,6 @@
 // The lines that the programs print, each put into a lent buffer.
+#![tactic(auto)]
+
 mod blind;
 mod records;
 pub mod rows;

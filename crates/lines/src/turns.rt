@@ -9,7 +9,7 @@ use watcher::state::Watcher;
 pub const LINE_BYTES: usize = 80;
 
 // What start hands back: the state, whether it is ready, and how many bytes its line has.
-#[derive(Drop)]
+#[derive(Clone, Copy)]
 pub struct Opened {
     pub next: Watcher,
     pub ready: bool,
@@ -17,7 +17,7 @@ pub struct Opened {
 }
 
 // What feeding hands back: the next state, and how many bytes its line has.
-#[derive(Drop)]
+#[derive(Clone, Copy)]
 pub struct Turn {
     pub next: Watcher,
     pub length: usize,

@@ -7,7 +7,7 @@ use watcher::readings::Tested;
 use watcher::state::{Answer, End, Found, Refusal, Wait, Word};
 
 // What an answer tells: a word, or a refusal.
-#[derive(Drop)]
+#[derive(Clone, Copy)]
 pub(crate) enum Told {
     Said(Word),
     Refused(Refusal),

@@ -1,4 +1,6 @@
 // The watcher for C and Rust: exports over numbers and lent lists.
+#![tactic(auto)]
+
 pub mod calls;
 mod codes;
 mod layout;

@@ -1,6 +1,8 @@
 // Runs into refusals 7, 12 and 10, which no lists and no log bring up: areas of another length, states that are
 // damaged and a closed watcher; and asks where the scratch is dirty. Each answer is held to the number given here, and
 // those that are right are counted.
+#![tactic(auto)]
+
 mod damaged;
 mod given;
 mod scratch;

@@ -8,7 +8,7 @@ ghost use Rattle.rewriting.specs.inside.Steps.{moved_of, Near};
 use crate::step::Interval;
 
 // What a shift becomes.
-#[derive(Drop)]
+#[derive(Clone, Copy)]
 pub(crate) enum Shift {
     Gone,
     To(usize),

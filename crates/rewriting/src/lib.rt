@@ -1,4 +1,6 @@
 // One record's rewriting on a lent area: a row by kind, the loops over a rule's records, and which rows are wrong.
+#![tactic(auto)]
+
 mod derived;
 pub mod ending;
 mod form;

@@ -10,7 +10,7 @@ use crate::step::Step;
 use forms::rows::constant;
 
 // Which rows are made.
-#[derive(Drop)]
+#[derive(Clone, Copy)]
 pub(crate) enum Row {
     Derived,
     Past,

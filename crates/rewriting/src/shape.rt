@@ -20,7 +20,7 @@ use forms::area::load;
 use forms::rows::{constant, fits, names, parameter};
 
 // A record of the rule, its first parameter, how many it has, and the parameters that its rows may name, as bits.
-#[derive(Drop)]
+#[derive(Clone, Copy)]
 pub(crate) struct Here {
     pub(crate) record: Record,
     pub(crate) first: usize,

@@ -1,7 +1,7 @@
 // What one row is made from.
 
 // The interval of a record, from its bytes: which kind of interval it is, and its ends.
-#[derive(Drop)]
+#[derive(Clone, Copy)]
 pub struct Interval {
     pub kind: u8,
     pub low: u8,
@@ -9,7 +9,7 @@ pub struct Interval {
 }
 
 // A record of a rule, from its bytes.
-#[derive(Drop)]
+#[derive(Clone, Copy)]
 pub struct Record {
     pub kind: u8,
     pub left: u8,
@@ -18,14 +18,14 @@ pub struct Record {
 }
 
 // The neighbouring record of the log: there is none, or it has a time.
-#[derive(Drop)]
+#[derive(Clone, Copy)]
 pub enum Neighbour {
     None,
     At(u32),
 }
 
 // A record with its first parameter and a shift, of m parameters, at a record of the log with its neighbour.
-#[derive(Drop)]
+#[derive(Clone, Copy)]
 pub struct Step {
     pub record: Record,
     pub first: usize,
@@ -37,7 +37,7 @@ pub struct Step {
 }
 
 // How many records the rule has, how many parameters m, and how many places the area has for past rows.
-#[derive(Drop)]
+#[derive(Clone, Copy)]
 pub struct Plan {
     pub records: usize,
     pub m: usize,
@@ -45,7 +45,7 @@ pub struct Plan {
 }
 
 // A record of the log as the rule sees it: its time, and the signals that hold in it as bits.
-#[derive(Drop)]
+#[derive(Clone, Copy)]
 pub struct Moment {
     pub time: u32,
     pub signals: u16,

@@ -1,4 +1,6 @@
 // The watching program: for each record of a log its time and the word, and at the end the verdict.
+#![tactic(auto)]
+
 mod run;
 mod wanted;
 

@@ -2,7 +2,7 @@
 use console::same;
 
 // Nothing, the past rows and the remainder after each line, or more behind the word of each record.
-#[derive(Drop)]
+#[derive(Clone, Copy)]
 pub(crate) enum Wanted {
     Nothing,
     Rows,

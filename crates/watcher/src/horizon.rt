@@ -13,7 +13,7 @@ use rewriting::rule::record_at;
 use rewriting::step::{Interval, Record};
 
 // The entries that a record's own is made from.
-#[derive(Drop)]
+#[derive(Clone, Copy)]
 struct Sides {
     left: usize,
     both: usize,

@@ -1,4 +1,6 @@
 // The watcher: its state with its limits, the checks of rule list, signal list, log record and state, and the calls.
+#![tactic(auto)]
+
 pub mod calls;
 mod held;
 mod horizon;

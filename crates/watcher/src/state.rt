@@ -7,7 +7,7 @@ use rewriting::rule::RECORD_BYTES;
 use rewriting::step::Moment;
 
 // The word after a record.
-#[derive(Drop)]
+#[derive(Clone, Copy)]
 pub enum Word {
     Kept,
     Broken,
@@ -15,14 +15,14 @@ pub enum Word {
 }
 
 // How a closed log ended.
-#[derive(Drop)]
+#[derive(Clone, Copy)]
 pub enum Verdict {
     Kept,
     Broken,
 }
 
 // What the watcher has seen: nothing yet, a last record with its time and signals, or the end.
-#[derive(Drop)]
+#[derive(Clone, Copy)]
 pub enum Phase {
     Fresh,
     Running { time: u32, signals: u16 },
@@ -30,7 +30,7 @@ pub enum Phase {
 }
 
 // A refusal: document 01's numbers 1 to 12, in that order.
-#[derive(Drop)]
+#[derive(Clone, Copy)]
 pub enum Refusal {
     RuleLength,
     RuleRecord,
@@ -47,48 +47,48 @@ pub enum Refusal {
 }
 
 // Where a search of a list first finds something: nowhere, or at a record and, second, its byte or an earlier record.
-#[derive(Drop)]
+#[derive(Clone, Copy)]
 pub enum Place {
     Nowhere,
     At { record: usize, second: usize },
 }
 
 // What a check finds.
-#[derive(Drop)]
+#[derive(Clone, Copy)]
 pub enum Found {
     Fine,
     Refused(Refusal),
 }
 
 // What an accepted record is told: the word.
-#[derive(Drop)]
+#[derive(Clone, Copy)]
 pub struct Report {
     pub word: Word,
 }
 
 // The answer to a record that is fed.
-#[derive(Drop)]
+#[derive(Clone, Copy)]
 pub enum Answer {
     Accepted(Report),
     Refused(Refusal),
 }
 
 // The answer to asking and to closing: how the log ends here.
-#[derive(Drop)]
+#[derive(Clone, Copy)]
 pub enum End {
     Closed(Verdict),
     Refused(Refusal),
 }
 
 // How long a rule can stay open, in minutes; it may have no such limit.
-#[derive(Drop)]
+#[derive(Clone, Copy)]
 pub enum Wait {
     Forever,
     Minutes(usize),
 }
 
 // The rule's bytes and its records, the signals' bytes and their count, zeros behind each, and the phase.
-#[derive(Drop)]
+#[derive(Clone, Copy)]
 pub struct Watcher {
     pub rule: [u8; Watcher::LIST_BYTES],
     pub records: usize,
@@ -98,28 +98,28 @@ pub struct Watcher {
 }
 
 // What start hands back: what it found, and the state.
-#[derive(Drop)]
+#[derive(Clone, Copy)]
 pub struct Started {
     pub found: Found,
     pub next: Watcher,
 }
 
 // What feeding a record hands back: the answer, and the next state.
-#[derive(Drop)]
+#[derive(Clone, Copy)]
 pub struct Fed {
     pub answer: Answer,
     pub next: Watcher,
 }
 
 // What closing hands back: the answer, and the next state.
-#[derive(Drop)]
+#[derive(Clone, Copy)]
 pub struct Ended {
     pub answer: End,
     pub next: Watcher,
 }
 
 // The limits of the watcher, as numbers.
-#[derive(Drop)]
+#[derive(Clone, Copy)]
 pub struct Limits {
     pub records: usize,
     pub signals: usize,
