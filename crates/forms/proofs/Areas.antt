@@ -30,7 +30,7 @@ among base count place =
 abbrev pub word_of : (ℕ → List ℕ) → ℕ → ℕ → ℕ
 word_of g base k = get_or (g (k / 64 - base)) (k % 64) 0
 
--- the test of `putRows`
+-- the test of `put_rows`
 tested_in : (base count q : ℕ) → base ≤ q → q < base + count → (leb base q && ltb q (base + count)) ≡ true
 tested_in base count q h l = ap₂ ◌&&◌ (le-leb base q h) (lt-ltb q (base + count) l)
 

@@ -14,7 +14,7 @@ use lib.Pow.{pow-lt, pow_mono}
 use borrow.Author.Tests.{lt-ltb, le-ltb}
 use Rattle.ground.specs.Fold.{◌⊕◌}
 use Rattle.ground.specs.Bits.{bit, of_bits, bit_at, Words}
-use Rattle.ground.proofs.Xor.{⊕_false, &&-⊕}
+use Rattle.ground.proofs.Xor.{⊕_false, &&_⊕}
 use Rattle.ground.proofs.Folds.{less_or_not, every_all, every_at}
 use Rattle.ground.proofs.Tabs.{length_tab, get_d_tab}
 use Rattle.ground.proofs.Numbers.{of_bits_lt, bit_of_bits, words_of_lem, words_same, zero_words, zero_bit}
@@ -154,7 +154,7 @@ bit_of_false m k = ap (λ b. ltb k (2 ^ m) && b) (has_false m (bit k)) ∙ and-f
 pub bit_of_xor : (m : ℕ) (f g : Form m) (k : ℕ) → bit_of m (xor m f g) k ≡ bit_of m f k ⊕ bit_of m g k
 unfolding bit_of
 bit_of_xor m f g k =
-    ap (λ b. ltb k (2 ^ m) && b) (has_xor m f g (bit k)) ∙ &&-⊕ (ltb k (2 ^ m)) (has m f (bit k)) (has m g (bit k))
+    ap (λ b. ltb k (2 ^ m) && b) (has_xor m f g (bit k)) ∙ &&_⊕ (ltb k (2 ^ m)) (has m f (bit k)) (has m g (bit k))
 
 pub bit_of_each : (m : ℕ) (f g : Form m) (k : ℕ) → bit_of m (each m f g) k ≡ (bit_of m f k && bit_of m g k)
 unfolding bit_of

@@ -19,7 +19,8 @@ use Rattle.ground.specs.Fold.{◌⊕◌, fold, every}
 use Rattle.ground.specs.Bits.{bit, bit_at}
 use Rattle.ground.proofs.Xor.{⊕_false}
 use Rattle.ground.proofs.Folds.{less_or_not, every_at}
-use Rattle.ground.proofs.Bits.{bit_xor_lem, bit_and_lem, bit_shr, bit_shl, bit_low, bit_le, bit_true, bit_false, one_shl}
+use Rattle.ground.proofs.Bits.{bit_xor_lem, bit_and_lem, bit_shr, bit_shl, bit_low, bit_le, bit_true, bit_false}
+use Rattle.ground.proofs.Bits.{one_shl}
 use Rattle.ground.proofs.Numbers.{bit_minus, words_of_lem}
 use Rattle.forms.specs.Form.{Form, constant, has, truth}
 use Rattle.forms.specs.Words.{most, pack}

@@ -4,7 +4,7 @@ use mathlib.Core.Path.{◌≡◌, refl, sym, ap₂, ◌∙◌}
 use mathlib.Core.Bool.{Bool, true, false, ◌&&◌, and-true, and_comm, and_assoc, and_self}
 use Prim.Native.Nat.{ℕ}
 use Rattle.ground.specs.Fold.{◌⊕◌}
-use Rattle.ground.proofs.Xor.{⊕_false, ⊕_self, ⊕_comm, ⊕_assoc, &&-⊕}
+use Rattle.ground.proofs.Xor.{⊕_false, ⊕_self, ⊕_comm, ⊕_assoc, &&_⊕}
 use Rattle.forms.specs.Form.{Form, constant, xor, and, value}
 use Rattle.forms.proofs.Values.{value_constant, value_xor, value_and, canonical}
 
@@ -64,4 +64,4 @@ module _ (m : ℕ) where
       ∙ sym (of_xor (and m f h) (and m g h) ρ (value_and m f h ρ) (value_and m g h ρ)))
     where
       spread : (a b c : Bool) → ((a ⊕ b) && c) ≡ (a && c) ⊕ (b && c)
-      spread a b c = and_comm (a ⊕ b) c ∙ &&-⊕ c a b ∙ ap₂ ◌⊕◌ (and_comm c a) (and_comm c b)
+      spread a b c = and_comm (a ⊕ b) c ∙ &&_⊕ c a b ∙ ap₂ ◌⊕◌ (and_comm c a) (and_comm c b)

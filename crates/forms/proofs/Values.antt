@@ -7,7 +7,7 @@ use native.Mathlib.Omega.{arith}
 use lib.Dec.{eqb}
 use borrow.Author.Tests.{eq-eqb, ne_eqb, eqb-true, eqb-false}
 use Rattle.ground.specs.Fold.{◌⊕◌}
-use Rattle.ground.proofs.Xor.{⊕_false, ⊕_cancel, ⊕_inj, &&-⊕, or_⊕}
+use Rattle.ground.proofs.Xor.{⊕_false, ⊕_cancel, ⊕_inj, &&_⊕, or_⊕}
 use Rattle.ground.proofs.Folds.{⊕_mid}
 use Rattle.forms.specs.Form.{Form, constant, parameter, xor, and, or, put_in, value}
 
@@ -59,7 +59,7 @@ unfolding value xor
 value_xor zero f g ρ = refl
 value_xor (suc m) f g ρ =
     ap₂ (λ x y. x ⊕ (ρ m && y)) (value_xor m f.0 g.0 ρ) (value_xor m f.1 g.1 ρ)
-    ∙ ap (λ y. value m f.0 ρ ⊕ value m g.0 ρ ⊕ y) (&&-⊕ (ρ m) (value m f.1 ρ) (value m g.1 ρ))
+    ∙ ap (λ y. value m f.0 ρ ⊕ value m g.0 ρ ⊕ y) (&&_⊕ (ρ m) (value m f.1 ρ) (value m g.1 ρ))
     ∙ ⊕_mid (value m f.0 ρ) (value m g.0 ρ) (ρ m && value m f.1 ρ) (ρ m && value m g.1 ρ)
 
 and_step : (p a₀ a₁ b₀ b₁ : Bool)

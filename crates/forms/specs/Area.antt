@@ -12,7 +12,8 @@ row_at ws place = tab 64 (λ i. get_or ws (64 * place + i) 0)
 unfoldable pub put_rows : List ℕ → ℕ → ℕ → (ℕ → List ℕ) → List ℕ
 put_rows ws base count g =
     tab (length ws)
-    (λ k. cond (leb base (k / 64) && ltb (k / 64) (base + count)) (get_or (g (k / 64 - base)) (k % 64) 0) (get_or ws k 0))
+    (λ k. cond (leb base (k / 64) && ltb (k / 64) (base + count)) (get_or (g (k / 64 - base)) (k % 64) 0)
+    (get_or ws k 0))
 
 -- form j of a list; false past its end
 abbrev pub form_in : (m : ℕ) → List (Form m) → ℕ → Form m

@@ -8,7 +8,7 @@ use native.Mathlib.Nat.{add-zero, add-suc, eq-or-lt_of_le, le_of_suc-le-suc, two
 use native.Mathlib.Decide.{dec_lt}
 use native.Mathlib.Omega.{arith}
 use Rattle.ground.specs.Fold.{◌⊕◌, fold, every, some, parity}
-use Rattle.ground.proofs.Xor.{⊕_false, ⊕_assoc, ⊕_comm, &&-⊕}
+use Rattle.ground.proofs.Xor.{⊕_false, ⊕_assoc, ⊕_comm, &&_⊕}
 
 -- of i below n + 1, i is n or below n
 pub last_or_less : {i n : ℕ} → i < suc n → (i ≡ n) ⊎ (i < n)
@@ -97,7 +97,7 @@ pub ⊕_mid : (a b c d : Bool) → a ⊕ b ⊕ (c ⊕ d) ≡ a ⊕ c ⊕ (b ⊕ 
 
 -- parity: a factor goes in, a double sum turns round, 2 ^ (m + 1) numbers are two halves
 pub parity_and : (x : Bool) (n : ℕ) (g : ℕ → Bool) → (x && parity n g) ≡ parity n (λ i. x && g i)
-parity_and x n g = fold_through (λ y. x && y) ◌⊕◌ false ◌⊕◌ false (and-false x) (&&-⊕ x) n g
+parity_and x n g = fold_through (λ y. x && y) ◌⊕◌ false ◌⊕◌ false (and-false x) (&&_⊕ x) n g
 
 pub parity_swap : (n k : ℕ) (g : ℕ → ℕ → Bool)
     → parity n (λ i. parity k (g i)) ≡ parity k (λ j. parity n (λ i. g i j))

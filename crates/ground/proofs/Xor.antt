@@ -32,9 +32,9 @@ pub ⊕_cancel : (a b : Bool) → a ⊕ (a ⊕ b) ≡ b
 pub ⊕_inj : (a b c : Bool) → a ⊕ b ≡ a ⊕ c → b ≡ c
 ⊕_inj a b c e = sym (⊕_cancel a b) ∙ ap (λ x. a ⊕ x) e ∙ ⊕_cancel a c
 
-pub &&-⊕ : (x a b : Bool) → (x && (a ⊕ b)) ≡ (x && a) ⊕ (x && b)
-&&-⊕ true a b = refl
-&&-⊕ false a b = refl
+pub &&_⊕ : (x a b : Bool) → (x && (a ⊕ b)) ≡ (x && a) ⊕ (x && b)
+&&_⊕ true a b = refl
+&&_⊕ false a b = refl
 
 -- "a or b" is a xor b xor (a and b)
 pub or_⊕ : (a b : Bool) → a ⊕ b ⊕ (a && b) ≡ (a || b)

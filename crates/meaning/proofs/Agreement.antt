@@ -54,7 +54,8 @@ module _ (log : List Entry) (rule : List Node) where
   unfolding parameter_values
   parameter_low k p i h =
       ap (λ (f : ℕ → Bool). f i)
-      (block_low (parameter_values log rule k) _ (first_of rule k) p (λ j. false) (length_parameter_values log rule k) h)
+      (block_low (parameter_values log rule k) _ (first_of rule k) p (λ j. false)
+      (length_parameter_values log rule k) h)
 
   parameter_new : (k n i : ℕ) → n < count (node_at rule k)
       → parameter_value log rule (suc k) (first_of rule k + n) i ≡ shift_value log rule k n i

@@ -55,7 +55,8 @@ module _ (log : List Entry) (rising : Rising log) (rule : List Node) (ordered : 
 
   next_right : (later : Neighbour) (i k l : ℕ) (v : Interval) (ρ : ℕ → Bool) → Follows log later i
       → Ahead log rule later i k ρ → l < k
-      → value m (next_row m (forms_of m rule k) l v (time_at log i) later) ρ ≡ next_at log (record_value log rule k l) v i
+      → value m (next_row m (forms_of m rule k) l v (time_at log i) later) ρ
+      ≡ next_at log (record_value log rule k l) v i
   unfolding next_row next_at
   next_right none i k l v ρ f a h =
       value_constant m false ρ
@@ -72,7 +73,8 @@ module _ (log : List Entry) (rising : Rising log) (rule : List Node) (ordered : 
   -- right's form derived, if 0 is in the shifted interval
   pub now_right : (i k r : ℕ) (v : Interval) (derived : List (Form m)) (ρ : ℕ → Bool) → r < k
       → Agrees log rule i k (λ q. value m (form_in m derived q) ρ)
-      → value m (only_if m (inside v (time_at log i) (time_at log i)) (put m (form_in m (forms_of m rule k) r) derived)) ρ
+      → value m (only_if m (inside v (time_at log i) (time_at log i))
+      (put m (form_in m (forms_of m rule k) r) derived)) ρ
       ≡ (inside v (time_at log i) (time_at log i) && record_value log rule k r i)
   now_right i k r v derived ρ h a =
       value_only_if m (inside v (time_at log i) (time_at log i)) (put m (form_in m (forms_of m rule k) r) derived) ρ
@@ -83,7 +85,8 @@ module _ (log : List Entry) (rising : Rising log) (rule : List Node) (ordered : 
       → Own log rule later i k (until l r v) ρ → Agrees log rule i k (λ q. value m (form_in m derived q) ρ)
       → value m
       (or m
-      (only_if m (inside (shifted v n) (time_at log i) (time_at log i)) (put m (form_in m (forms_of m rule k) r) derived))
+      (only_if m (inside (shifted v n) (time_at log i) (time_at log i))
+      (put m (form_in m (forms_of m rule k) r) derived))
       (until_later m (forms_of m rule k) derived (first_of rule k) l v n (time_at log i) later)) ρ
       ≡ until_at log (record_value log rule k l) (record_value log rule k r) (shifted v n) i
   unfolding until_later parameter_to meaning shifted_node count

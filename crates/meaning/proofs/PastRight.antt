@@ -34,7 +34,8 @@ module _ (log : List Entry) (rising : Rising log) (rule : List Node) (ordered : 
       ≡ previous_at log (record_value log rule k l) v (suc i)
   unfolding previous_row previous_at
   previous_right i k l v derived past t ρ e h a =
-      value_only_if m (inside v (time_at log (suc i)) t) (put m (put m (form_in m (forms_of m rule k) l) derived) past) ρ
+      value_only_if m (inside v (time_at log (suc i)) t)
+      (put m (put m (form_in m (forms_of m rule k) l) derived) past) ρ
       ∙ ap₂ (λ x b. inside v (time_at log (suc i)) x && b) e
       (value_put m (put m (form_in m (forms_of m rule k) l) derived) past ρ
       ∙ put_value log rule ordered m fits i k l derived (λ q. value m (form_in m past q) ρ) a h)

@@ -66,7 +66,8 @@ module _ (rule : List Node) (m : ℕ) where
   put_back f rows K long back =
       depends_put rule m (Below rule) (below_grows rule) f rows K long
       (λ k n h c.
-      back_grows (reach (node_at rule k) k) (suc k) (form_in m rows (first_of rule k + n)) (reach_most (node_at rule k) k)
+      back_grows (reach (node_at rule k) k) (suc k) (form_in m rows (first_of rule k + n))
+      (reach_most (node_at rule k) k)
       (back k n h c))
 
   -- and a form that names only parameters of the first k of them still names no others
@@ -132,7 +133,8 @@ module _ (rule : List Node) (ordered : Ordered rule) (m : ℕ) (fits : (k : ℕ)
 
     later_back : (l : ℕ) (v : Interval) (n here : ℕ) (later : Neighbour)
         → ((i : ℕ) → i < shifts v → DependsOn (Below rule (suc k)) m (parameter m (first_of rule k + i)))
-        → DependsOn (Below rule (suc k)) m (until_later m (forms_of m rule k) derived (first_of rule k) l v n here later)
+        → DependsOn (Below rule (suc k)) m (until_later m (forms_of m rule k) derived
+        (first_of rule k) l v n here later)
     unfolding until_later parameter_to
     later_back l v n here none own = depends_constant (Below rule (suc k)) m false
     later_back l v n here (at other) own =

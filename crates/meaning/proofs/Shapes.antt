@@ -143,7 +143,8 @@ module _ (rule : List Node) (m : ℕ) (e : Entry) (rows : List (Form m)) (K : �
       own : Place rule (suc k) (first_of rule k + n)
       own = record { node = k; shift = n; before = omega arith; less = c; here = refl }
 
-      go : Dec (Future (node_at rule k)) → DependsOn (FutureBefore rule (suc k)) m (form_in m rows (first_of rule k + n))
+      go : Dec (Future (node_at rule k)) → DependsOn (FutureBefore rule (suc k)) m
+          (form_in m rows (first_of rule k + n))
       go (yes u) =
           subst (DependsOn (FutureBefore rule (suc k)) m) (sym (shaped_future u))
           (depends_parameter (FutureBefore rule (suc k)) m (first_of rule k + n) (omega (arith, first_of_more rule k))

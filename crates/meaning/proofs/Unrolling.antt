@@ -57,13 +57,15 @@ module _ (log : List Entry) (rising : Rising log) (left right : ℕ → Bool) wh
       (inl (rising i (suc i) (omega arith) (omega arith), rising (suc i) j l k)))
       (every_in_first i j left l)
       ∙ turn
-      (moved_to (λ w. inside w (time_at log (suc i)) (time_at log j)) v (moved v n (time_at log i) (time_at log (suc i))))
+      (moved_to (λ w. inside w (time_at log (suc i)) (time_at log j)) v
+      (moved v n (time_at log i) (time_at log (suc i))))
       (right j) (left i) (every_in (suc i) j left)
 
   pub until_step : (v : Interval) (n i : ℕ) → n < shifts v → suc i < length log
       → until_at log left right (shifted v n) i
       ≡ (inside (shifted v n) (time_at log i) (time_at log i) && right i
-      || left i && moved_to (λ w. until_at log left right w (suc i)) v (moved v n (time_at log i) (time_at log (suc i))))
+      || left i && moved_to (λ w. until_at log left right w (suc i)) v
+      (moved v n (time_at log i) (time_at log (suc i))))
   unfolding until_at
   until_step v n i h l =
       some_in_first i (length log) _ (omega arith)
@@ -92,13 +94,15 @@ module _ (log : List Entry) (rising : Rising log) (left right : ℕ → Bool) wh
       (inside_moved v n (time_at log (suc i)) (time_at log i) (time_at log j) h
       (inr (rising j i l (omega arith), rising i (suc i) (omega arith) k)))
       (every_in_last (suc j) (suc i) left (omega arith) ∙ and_comm (every_in (suc j) (suc i) left) (left (suc i)))
-      ∙ turn (moved_to (λ w. inside w (time_at log i) (time_at log j)) v (moved v n (time_at log (suc i)) (time_at log i)))
+      ∙ turn (moved_to (λ w. inside w (time_at log i) (time_at log j)) v
+      (moved v n (time_at log (suc i)) (time_at log i)))
       (right j) (left (suc i)) (every_in (suc j) (suc i) left)
 
   pub since_step : (v : Interval) (n i : ℕ) → n < shifts v → suc i < length log
       → since_at log left right (shifted v n) (suc i)
       ≡ (inside (shifted v n) (time_at log (suc i)) (time_at log (suc i)) && right (suc i)
-      || left (suc i) && moved_to (λ w. since_at log left right w i) v (moved v n (time_at log (suc i)) (time_at log i)))
+      || left (suc i) && moved_to (λ w. since_at log left right w i) v
+      (moved v n (time_at log (suc i)) (time_at log i)))
   unfolding since_at
   since_step v n i h l =
       some_in_last 0 (suc i) _ (omega arith)

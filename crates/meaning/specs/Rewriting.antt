@@ -35,7 +35,8 @@ module _ (m : ℕ) where
   -- the forms of the first k records
   unfoldable pub forms_of : List Node → ℕ → List (Form m)
   forms_of rule zero = []
-  forms_of rule (suc k) = let forms = forms_of rule k in forms ++ (form_of forms (first_of rule k) (node_at rule k) ∷ [])
+  forms_of rule (suc k) = let forms = forms_of rule k in
+      forms ++ (form_of forms (first_of rule k) (node_at rule k) ∷ [])
 
   -- the parameter, or the row, of a moved shift; false where it is gone
   unfoldable pub parameter_to : ℕ → Moved → Form m
