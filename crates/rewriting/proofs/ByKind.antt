@@ -1,4 +1,4 @@
--- The record of a rule by its kind: what others say of `nodeFor`, they say by these laws.
+-- The record of a rule by its kind: what others say of `node_for`, they say by these laws.
 -- Assumes nothing.
 use mathlib.Core.Path.{◌≡◌, refl, ap}
 use mathlib.Core.Bool.{Bool, true, false, cond}

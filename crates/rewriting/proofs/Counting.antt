@@ -52,7 +52,8 @@ unfolding parameters
 parameters_done list n k sum e h l = e ∙ ap (first_of (rule_in list n)) (le_antisymm h l ∙ sym (length_rule_in list n))
 
 -- as many records have as many; of no more than 64 records all count
-pub counts_same : (list : List ℕ) (n l r : ℕ) → n ≡ l → r ≡ parameters (rule_in list n) → r ≡ parameters (rule_in list l)
+pub counts_same : (list : List ℕ) (n l r : ℕ) → n ≡ l → r ≡ parameters (rule_in list n)
+    → r ≡ parameters (rule_in list l)
 counts_same list n l r h e = e ∙ ap (λ x. parameters (rule_in list x)) h
 
 pub counts_all : (list : List ℕ) (n r : ℕ) → n ≤ 64 → r ≡ parameters (rule_in list (min n 64))

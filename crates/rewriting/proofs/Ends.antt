@@ -1,4 +1,4 @@
--- The interval of a record: what each way through the code finds, and what others say of `intervalFor`.
+-- The interval of a record: what each way through the code finds, and what others say of `interval_for`.
 -- Assumes nothing.
 use mathlib.Core.Path.{◌≡◌, refl, ap, sym, ◌∙◌}
 use mathlib.Core.Bool.{Bool, true, false, cond}

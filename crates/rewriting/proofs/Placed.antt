@@ -74,7 +74,8 @@ module _ (places m : ℕ) (past : List (Form m)) (remainder : Form m) where
   pub row_area_of : (j : ℕ) → j < 2 * (places + 1)
       → row_at (area_of places m past remainder) j ≡ row_for places m past remainder j
   unfolding row_at
-  row_area_of j h = sym (tab_is 64 _ (row_for places m past remainder j) 0 (length_row j) (λ i l. sym (word_at j i h l)))
+  row_area_of j h =
+      sym (tab_is 64 _ (row_for places m past remainder j) 0 (length_row j) (λ i l. sym (word_at j i h l)))
 
   -- an area of these rows is the one that is laid out
   pub area_is : (a : List ℕ) → length a ≡ words_for places

@@ -75,7 +75,8 @@ some_low m n g h out = go (some m g) (some n g) refl refl
     go true false e q =
         absurd (true≢false (sym e ∙ some_none m g (λ p l. none_at n g q p (let u : p < n = omega arith in u))))
 
-pub names_other_lem : (m : ℕ) (f : Form m) (named allowed : ℕ) → m ≤ 12 → allowed < 2 ^ 12 → named ≡ of_bits 12 (names m f)
+pub names_other_lem : (m : ℕ) (f : Form m) (named allowed : ℕ) → m ≤ 12 → allowed < 2 ^ 12
+    → named ≡ of_bits 12 (names m f)
     → not (eqb (bit_or named allowed) allowed) ≡ some m (λ p. names m f p && not (bit allowed p))
 names_other_lem m f named allowed few h e =
     ap (λ x. not (eqb (bit_or x allowed) allowed)) e

@@ -1,6 +1,7 @@
 -- What is known, in the work area (document 01, "Work area and state"): past rows from place 0 on, then the
 -- remainder, then as much scratch again.
-use Rattle.std.specs.Prelude.{◌≡◌, true, cond, List, ℕ, ◌+◌, ◌*◌, ◌/◌, ◌%◌, ◌^◌, ◌≤◌, ◌<◌, eqb, ltb, length, get_or, replicate}
+use Rattle.std.specs.Prelude.{◌≡◌, true, cond, List, ℕ, ◌+◌, ◌*◌, ◌/◌, ◌%◌, ◌^◌, ◌≤◌, ◌<◌}
+use Rattle.std.specs.Prelude.{eqb, ltb, length, get_or, replicate}
 use Rattle.ground.specs.Fold.{tab}
 use Rattle.forms.specs.Form.{Form}
 use Rattle.forms.specs.Words.{pack, unpack, fits}

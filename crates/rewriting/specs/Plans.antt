@@ -61,4 +61,5 @@ left_with list plan new ws =
     area_with plan (leave plan.m (rule_for list plan) (form_at plan.m ws plan.places) (entry_for new))
 
 abbrev pub fed_with : List ℕ → (plan : Plan) → (last new : Moment) → List ℕ → List ℕ
-fed_with list plan last new ws = area_with plan (feed plan.m (rule_for list plan) (read_in plan ws last) (entry_for new))
+fed_with list plan last new ws =
+    area_with plan (feed plan.m (rule_for list plan) (read_in plan ws last) (entry_for new))

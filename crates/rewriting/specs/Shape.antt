@@ -1,6 +1,7 @@
 -- When the rows of a work area are wrong (document 01, refusal 12). Past rows stand from place 0 on, then the
 -- remainder.
-use Rattle.std.specs.Prelude.{Bool, true, false, not, ◌&&◌, ◌||◌, List, ℕ, zero, suc, ◌+◌, eqb, leb, ltb, length, get_or}
+use Rattle.std.specs.Prelude.{Bool, true, false, not, ◌&&◌, ◌||◌, List, ℕ, zero, suc, ◌+◌}
+use Rattle.std.specs.Prelude.{eqb, leb, ltb, length, get_or}
 use Rattle.ground.specs.Fold.{every, some}
 use Rattle.forms.specs.Form.{Form, constant, parameter, names, same}
 use Rattle.forms.specs.Words.{fits}

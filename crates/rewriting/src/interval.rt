@@ -1,6 +1,7 @@
 // The one account of a record's interval: what is inside, what the gap makes of a shift, how many shifts there are.
 ghost use Rattle.std.specs.Prelude.{◌≡◌, ◌≤◌, ◌<◌};
-ghost use Rattle.meaning.specs.Interval.{distance, inside as insideOf, shifted, shifts as shiftsOf, moved as movedBy};
+ghost use Rattle.meaning.specs.Interval.{distance, inside as inside_of, shifted};
+ghost use Rattle.meaning.specs.Interval.{shifts as shifts_of, moved as moved_by};
 ghost use Rattle.rewriting.specs.Decode.{interval_for};
 ghost use Rattle.rewriting.specs.Clauses.{EndlessClause};
 ghost use Rattle.rewriting.specs.inside.Steps.{moved_of, Near};
@@ -34,7 +35,7 @@ fn apart(here: u32, other: u32) -> usize
 
 // Whether the other record, seen from the one here, is in the interval.
 pub(crate) fn inside(interval: Interval, here: u32, other: u32) -> bool
-    ensures { result ≡ insideOf (interval_for interval) here other }
+    ensures { result ≡ inside_of (interval_for interval) here other }
 {
     let gap = apart(here, other);
     if gap < interval.low as usize {
@@ -48,7 +49,7 @@ pub(crate) fn inside(interval: Interval, here: u32, other: u32) -> bool
 
 // Whether the record here is in its own interval with a shift: 0 is in the shifted interval.
 pub(crate) fn inside_now(interval: Interval, shift: usize, here: u32) -> bool
-    ensures { result ≡ insideOf (shifted (interval_for interval) shift) here here }
+    ensures { result ≡ inside_of (shifted (interval_for interval) shift) here here }
 {
     interval.low as usize <= shift
 }
@@ -56,7 +57,7 @@ pub(crate) fn inside_now(interval: Interval, shift: usize, here: u32) -> bool
 // What a shift becomes by the gap between the record here and the other one.
 pub(crate) fn moved(interval: Interval, shift: usize, here: u32, other: u32) -> Shift
     requires { shift < 256 }
-    ensures { (moved_of result ≡ movedBy (interval_for interval) shift here other) × Near result }
+    ensures { (moved_of result ≡ moved_by (interval_for interval) shift here other) × Near result }
 {
     let later = shift + apart(here, other);
     if endless(interval) {
@@ -74,7 +75,7 @@ pub(crate) fn moved(interval: Interval, shift: usize, here: u32, other: u32) -> 
 
 // How many shifts an interval has: 0 to high, or to low with no upper end.
 pub(crate) fn shifts(interval: Interval) -> usize
-    ensures { (result ≡ shiftsOf (interval_for interval)) × (result ≤ 256) }
+    ensures { (result ≡ shifts_of (interval_for interval)) × (result ≤ 256) }
 {
     if endless(interval) {
         interval.low as usize + 1

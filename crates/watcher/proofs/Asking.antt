@@ -22,7 +22,8 @@ use Rattle.watcher.specs.declared.state.Ended.{Ended}
 use Rattle.watcher.specs.Limits.{most_parameters}
 use Rattle.watcher.specs.Numbers.{verdict_for, verdict_value, found_at, stage_of, last_in}
 use Rattle.watcher.specs.State.{rule_of, parameters_of}
-use Rattle.watcher.specs.Calls.{closed_state, known_now, close_refusal, value_now, ask_with, ask_of, close_with, close_of}
+use Rattle.watcher.specs.Calls.{closed_state, known_now, close_refusal, value_now}
+use Rattle.watcher.specs.Calls.{ask_with, ask_of, close_with, close_of}
 use Rattle.watcher.specs.Clauses.{AskClause}
 use Rattle.watcher.proofs.Numbers.{verdict_says}
 use Rattle.watcher.specs.inside.Turns.{plan_of, ended_state, close_by}
@@ -74,7 +75,8 @@ module _ (w : Watcher) (ws : List ℕ) where
 
   -- closing, by what asking answers
   pub close_by_lem : close_of w ws ≡ close_by w ws (ask_of w ws)
-  unfolding close_of close_with ask_of ask_with close_by value_now known_now known_in closed_state ended_state parameters_of rule_of
+  unfolding close_of close_with ask_of ask_with close_by value_now known_now known_in closed_state ended_state
+      parameters_of rule_of
   close_by_lem = go (close_refusal w ws)
     where
       go : (f : Found) → close_with f w ws ≡ close_by w ws (ask_with f w ws)

@@ -181,7 +181,8 @@ module _ (w : Watcher) (ws : List ℕ) where
 
 -- areas with the same past rows and remainder: the tests say the same
 module _ (w : Watcher) (a b : List ℕ) (alike : (j : ℕ) → j ≤ most_parameters → row_at a j ≡ row_at b j) where
-  phase_same : parameters_of w ≤ most_parameters → (stage : Stage) → wrong_in_phase w a stage ≡ wrong_in_phase w b stage
+  phase_same : parameters_of w ≤ most_parameters → (stage : Stage)
+      → wrong_in_phase w a stage ≡ wrong_in_phase w b stage
   unfolding wrong_in_phase
   phase_same h fresh = zeros_same most_parameters a b alike 0
   phase_same h (running e) =

@@ -208,7 +208,8 @@ module _ (list : List ℕ) (records : ℕ) where
   last_entry codes k a b coded =
       coded (records - 1)
       ∙ ap (λ n. code_of (get_or (horizons (rule_in list records) n) (records - 1) never)) (le_antisymm a b)
-      ∙ ap (λ n. code_of (get_or (horizons (rule_in list records) n) (n - 1) never)) (sym (length_rule_in list records))
+      ∙ ap (λ n. code_of (get_or (horizons (rule_in list records) n) (n - 1) never))
+      (sym (length_rule_in list records))
 
   module _ (codes : List ℕ) (k last : ℕ) (a : k ≤ records) (b : records ≤ k)
       (coded : Coded codes (horizons (rule_in list records) k)) (is : last ≡ get_or codes (records - 1) 0) where

@@ -22,8 +22,9 @@ use Rattle.watcher.specs.declared.state.Found.TheVariants.{Fine, Refused}
 use Rattle.watcher.specs.Limits.{most_parameters, list_bytes}
 use Rattle.watcher.specs.Rules.{records_of}
 use Rattle.watcher.specs.Records.{time_of, signal_word, entry_of}
-use Rattle.watcher.specs.Calls.{padded, zero_state, fresh_state, running_state, closed_state, start_refusal, start_with}
-use Rattle.watcher.specs.Calls.{start_of, feed_refusal, feed_with, feed_of, close_refusal, close_with, close_of}
+use Rattle.watcher.specs.Calls.{padded, zero_state, fresh_state, running_state, closed_state, start_refusal}
+use Rattle.watcher.specs.Calls.{start_with, start_of, feed_refusal, feed_with, feed_of, close_refusal, close_with}
+use Rattle.watcher.specs.Calls.{close_of}
 use Rattle.watcher.specs.Machine.{MachineBytes, MachineWords, MachinePhase, MachineState}
 use Rattle.watcher.proofs.Decoded.{fine_tests, accepted_list}
 use Rattle.watcher.proofs.Refusing.{length_most}
@@ -39,13 +40,15 @@ pub bytes_tab : (n : ℕ) (g : ℕ → ℕ) → n < 2 ^ 63 → ((i : ℕ) → g 
 bytes_tab n g f h = record { small = tab_small n g h; few = omega (arith, length_tab n g) }
 
 -- the first of some bytes, and those behind them
-pub take_small : (n : ℕ) (bytes : List ℕ) → ((i : ℕ) → get_or bytes i 0 < 256) → (i : ℕ) → get_or (take n bytes) i 0 < 256
+pub take_small : (n : ℕ) (bytes : List ℕ) → ((i : ℕ) → get_or bytes i 0 < 256) → (i : ℕ)
+    → get_or (take n bytes) i 0 < 256
 take_small zero bytes h i = omega arith
 take_small (suc n) [] h i = omega arith
 take_small (suc n) (b ∷ bytes) h zero = h zero
 take_small (suc n) (b ∷ bytes) h (suc i) = take_small n bytes (λ j. h (suc j)) i
 
-pub drop_small : (n : ℕ) (bytes : List ℕ) → ((i : ℕ) → get_or bytes i 0 < 256) → (i : ℕ) → get_or (drop n bytes) i 0 < 256
+pub drop_small : (n : ℕ) (bytes : List ℕ) → ((i : ℕ) → get_or bytes i 0 < 256) → (i : ℕ)
+    → get_or (drop n bytes) i 0 < 256
 drop_small n bytes h i = subst (λ x. x < 256) (sym (get_or-drop n bytes i 0)) (h (n + i))
 
 pub take_bytes : (n : ℕ) (bytes : List ℕ) → MachineBytes bytes → MachineBytes (take n bytes)

@@ -5,7 +5,8 @@ use mathlib.Core.List.{List, [], ◌∷◌}
 use Prim.Native.Nat.{ℕ, ◌+◌}
 use lib.Dec.{eqb}
 use Rattle.ground.specs.Fold.{fold}
-use Rattle.rewriting.specs.Decode.{record_bytes, kind_true, kind_false, kind_signal, kind_and, kind_previous, kind_since}
+use Rattle.rewriting.specs.Decode.{record_bytes, kind_true, kind_false, kind_signal, kind_and}
+use Rattle.rewriting.specs.Decode.{kind_previous, kind_since}
 use Rattle.rewriting.specs.Decode.{byte_of, endless, record_in}
 use Rattle.watcher.specs.declared.state.Place.{Place}
 use Rattle.watcher.specs.declared.state.Place.TheVariants.{Nowhere, At}
@@ -31,19 +32,19 @@ broken rule = first_broken record_bytes byte_breaks rule
 
 -- in record 1 byte 3 is not zero, and low is above high
 pub broken_bytes : broken (bare kind_signal (with kind_previous 0 0 1 5 4 [])) ≡ At 1 3
-unfolding fold first_where or_else first_broken byte_breaks used_right names_right fair_limits endless record_in byte_of uses
-    used_bytes
+unfolding fold first_where or_else first_broken byte_breaks used_right names_right fair_limits endless record_in byte_of
+    uses used_bytes
 broken_bytes = refl
 
 -- record 1 names itself, and record 2 has no kind
 pub broken_records : broken (bare kind_true (with kind_and 0 1 0 0 0 (bare 0 []))) ≡ At 1 2
-unfolding fold first_where or_else first_broken byte_breaks used_right names_right fair_limits endless record_in byte_of uses
-    used_bytes
+unfolding fold first_where or_else first_broken byte_breaks used_right names_right fair_limits endless record_in byte_of
+    uses used_bytes
 broken_records = refl
 
 pub none_broken : broken (bare kind_signal (bare kind_false (with kind_since 0 1 0 2 255 []))) ≡ Nowhere
-unfolding fold first_where or_else first_broken byte_breaks used_right names_right fair_limits endless record_in byte_of uses
-    used_bytes
+unfolding fold first_where or_else first_broken byte_breaks used_right names_right fair_limits endless record_in byte_of
+    uses used_bytes
 none_broken = refl
 
 -- where the first twins are

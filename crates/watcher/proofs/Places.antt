@@ -46,7 +46,8 @@ module _ (g : ℕ → Place) where
   joined_first (suc n) i a b h before e =
       ⊎_elim
       (λ q.
-      ap (λ p. or_else p (g n)) (fold_none or_else Nowhere refl n g (λ k l. before k (omega arith))) ∙ ap g (sym q) ∙ e)
+      ap (λ p. or_else p (g n)) (fold_none or_else Nowhere refl n g (λ k l. before k (omega arith)))
+      ∙ ap g (sym q) ∙ e)
       (λ l. ap (λ p. or_else p (g n)) (joined_first n i a b l before e)) (last_or_less h)
 
   abbrev Comes : (n a b : ℕ) → Type 0
@@ -57,7 +58,8 @@ module _ (g : ℕ → Place) where
   joined_at zero a b e = absurd (somewhere a b e)
   joined_at (suc n) a b e = go (joined n) refl (joined_at n a b) e
     where
-      go : (p : Place) → joined n ≡ p → (joined n ≡ At a b → Comes n a b) → or_else p (g n) ≡ At a b → Comes (suc n) a b
+      go : (p : Place) → joined n ≡ p → (joined n ≡ At a b → Comes n a b) → or_else p (g n) ≡ At a b
+          → Comes (suc n) a b
       go Nowhere q before e = (n, omega arith, e, joined_none n q)
       go (At i j) q before e = let c = before (q ∙ e) in (c.0, omega (arith, c.1), c.2, c.3)
 

@@ -161,7 +161,8 @@ module _ (w : Watcher) (ws : List ℕ) (found : Found) (is : found ≡ first_ref
             (first_passed _ _ _ _ right (first_passed _ _ _ _ (early h) first_none))
 
 -- a call that is not refused has an area of its length and a state that is not broken
-none_first : (b : Bool) (r : Refusal) (rest : List Test) → first_refusal (record { holds = b; gives = r } ∷ rest) ≡ Fine
+none_first : (b : Bool) (r : Refusal) (rest : List Test)
+    → first_refusal (record { holds = b; gives = r } ∷ rest) ≡ Fine
     → (b ≡ false) × (first_refusal rest ≡ Fine)
 unfolding first_refusal
 none_first b r rest e = first_fine b r _ e

@@ -1,5 +1,6 @@
 -- Start, feed, ask and close: what each answers, the next state, and the whole work area afterwards.
-use Rattle.std.specs.Prelude.{Bool, true, false, not, cond, List, [], ◌∷◌, ◌++◌, ℕ, eqb, ltb, length, get_or, replicate}
+use Rattle.std.specs.Prelude.{Bool, true, false, not, cond, List, [], ◌∷◌, ◌++◌, ℕ, eqb, ltb}
+use Rattle.std.specs.Prelude.{length, get_or, replicate}
 use Rattle.ground.specs.Fold.{tab}
 use Rattle.meaning.specs.Rule.{Node, Entry, parameters}
 use Rattle.meaning.specs.Horizon.{Horizon, never, horizon}

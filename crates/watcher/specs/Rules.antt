@@ -1,5 +1,6 @@
 -- The rule list: its layout, and how many parameters its rule may have (document 01, "Lists on disk").
-use Rattle.std.specs.Prelude.{Bool, true, false, not, ◌&&◌, ◌||◌, cond, List, [], ◌∷◌, ℕ, ◌/◌, ◌%◌, eqb, leb, ltb, length, get_or}
+use Rattle.std.specs.Prelude.{Bool, true, false, not, ◌&&◌, ◌||◌, cond, List, [], ◌∷◌, ℕ, ◌/◌, ◌%◌}
+use Rattle.std.specs.Prelude.{eqb, leb, ltb, length, get_or}
 use Rattle.ground.specs.Fold.{every}
 use Rattle.meaning.specs.Rule.{parameters}
 use Rattle.rewriting.specs.declared.step.Interval.{Interval}

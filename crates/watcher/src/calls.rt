@@ -35,6 +35,7 @@ fn fresh_state(rule: &[u8], signals: &[u8]) -> Watcher
 }
 
 // The state with its last record.
+#[tactic(auto, unfolding(crate::specs::Calls::running_state))]
 fn running_state(watcher: Watcher, last: Moment) -> Watcher
     ensures { result ≡ running_state watcher (entry_for last) }
 {
@@ -53,6 +54,7 @@ fn running_state(watcher: Watcher, last: Moment) -> Watcher
 }
 
 // The verdict of a value.
+#[tactic(auto, unfolding(crate::specs::Numbers::verdict_for))]
 fn verdict_for(value: bool) -> Verdict
     ensures { result ≡ verdict_for value }
 {
@@ -64,6 +66,7 @@ fn verdict_for(value: bool) -> Verdict
 }
 
 // The value that a verdict says.
+#[tactic(auto, unfolding(crate::specs::Numbers::verdict_value))]
 fn value_of(verdict: Verdict) -> bool
     ensures { result ≡ verdict_value verdict }
 {
@@ -74,6 +77,7 @@ fn value_of(verdict: Verdict) -> bool
 }
 
 // The state closed with a verdict.
+#[tactic(auto, unfolding(crate::specs::inside::Turns::ended_state))]
 fn closed_state(watcher: Watcher, verdict: Verdict) -> Watcher
     ensures { result ≡ ended_state watcher verdict }
 {

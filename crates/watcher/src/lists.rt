@@ -45,6 +45,7 @@ pub(crate) fn uses(kind: usize, i: usize) -> bool
 }
 
 // How many records a list has.
+#[tactic(auto, unfolding(crate::specs::Rules::records_of))]
 pub(crate) fn records_of(list: &[u8]) -> usize
     ensures { result ≡ records_of list.now }
 {

@@ -69,6 +69,7 @@ pub(crate) fn start_refusal(rule: &[u8], signals: &[u8], area: &[u64]) -> Found
 }
 
 // Whether the watcher is closed.
+#[tactic(auto, unfolding(crate::specs::Calls::is_closed, crate::specs::Numbers::stage_of))]
 fn is_closed(phase: Phase) -> bool
     ensures { result ≡ is_closed (stage_of phase) }
 {
@@ -102,6 +103,7 @@ fn state_refusal(watcher: Watcher, area: &[u64]) -> Found
 }
 
 // Whether the record's time is lower than the last accepted record's.
+#[tactic(auto, unfolding(crate::specs::Calls::too_early, crate::specs::Numbers::stage_of))]
 fn too_early(phase: Phase, time: u32) -> bool
     ensures { result ≡ too_early (stage_of phase) time }
 {
@@ -116,6 +118,7 @@ fn too_early(phase: Phase, time: u32) -> bool
 }
 
 // Whether nothing was fed.
+#[tactic(auto, unfolding(crate::specs::Calls::is_fresh, crate::specs::Numbers::stage_of))]
 fn is_fresh(phase: Phase) -> bool
     ensures { result ≡ is_fresh (stage_of phase) }
 {
@@ -168,6 +171,7 @@ pub(crate) fn close_refusal(watcher: Watcher, area: &[u64]) -> Found
 
 impl Refusal {
     // Document 01's number of a refusal.
+    #[tactic(auto, unfolding(crate::specs::Numbers::refusal_number))]
     pub fn number(self) -> usize
         ensures { NumberClause self result }
     {

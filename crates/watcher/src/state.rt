@@ -132,6 +132,7 @@ pub struct Limits {
 
 impl Found {
     // Whether something is refused.
+    #[tactic(auto, unfolding(crate::specs::State::is_refused))]
     pub fn is_refused(self) -> bool
         ensures { IsRefusedClause self result }
     {
@@ -144,6 +145,7 @@ impl Found {
 
 impl Place {
     // Whether something was found.
+    #[tactic(auto, unfolding(crate::specs::Places::is_found))]
     pub(crate) fn is_found(self) -> bool
         ensures { result ≡ is_found self }
     {
@@ -159,6 +161,7 @@ impl Place {
 
 impl Verdict {
     // The word that says the same.
+    #[tactic(auto, unfolding(crate::specs::Numbers::decided, crate::specs::Numbers::verdict_value))]
     pub fn word(self) -> Word
         ensures { WordClause self result }
     {
@@ -211,6 +214,7 @@ impl Watcher {
     pub const TABLE_WORDS: usize = Self::ROW_WORDS * Self::RECORDS;
 
     // The constants above are the limits that the definitions name.
+    #[tactic(auto, unfolding(rewriting::specs::Known::words_for))]
     pub fn limits() -> Limits
         ensures { LimitsClause result }
     {
@@ -226,6 +230,7 @@ impl Watcher {
     }
 
     // A fresh state of zeros.
+    #[tactic(auto, unfolding(crate::specs::Calls::zero_state))]
     pub fn zero_state() -> Watcher
         ensures { ZeroStateClause result }
     {

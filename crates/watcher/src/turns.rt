@@ -7,7 +7,7 @@ ghost use Rattle.watcher.specs.Limits.{most_records, most_parameters, area_words
 ghost use Rattle.watcher.specs.Numbers.{saying};
 ghost use Rattle.watcher.specs.Rules.{records_of};
 ghost use Rattle.watcher.specs.State.{parameters_of};
-ghost use Rattle.watcher.specs.Calls.{padded as paddedOf, value_now};
+ghost use Rattle.watcher.specs.Calls.{padded as padded_of, value_now};
 ghost use Rattle.watcher.specs.inside.Turns.{plan_on, plan_of, plan_in, Passed, rewritten_of, ReportsOn, begun_of};
 
 use crate::lists::records_of;
@@ -22,7 +22,7 @@ use rewriting::{ending, rewrite};
 
 // A list with zeros behind it.
 pub(crate) fn padded(list: &[u8]) -> [u8; Watcher::LIST_BYTES]
-    ensures { result ≡ paddedOf list.now }
+    ensures { result ≡ padded_of list.now }
 {
     let mut bytes = [0u8; Watcher::LIST_BYTES];
     for i in 0..Watcher::LIST_BYTES {

@@ -68,9 +68,9 @@ OfRecord d first m ws k r =
     (forms : List (Form m)) → Holds m ws 0 k forms → r ≡ pack m (form_of m forms first (node_for d))
 
 -- where the rows that are made stand, and where the others do: past rows from 0 on, derived rows in the scratch
-abbrev pub field_own : Row → (scratch : ℕ) → ℕ
-field_own Derived scratch = scratch
-field_own Past scratch = 0
+abbrev pub own_at : Row → (scratch : ℕ) → ℕ
+own_at Derived scratch = scratch
+own_at Past scratch = 0
 
 abbrev pub other_at : Row → (scratch : ℕ) → ℕ
 other_at Derived scratch = 0
@@ -78,7 +78,7 @@ other_at Past scratch = scratch
 
 -- the area holds such rows of the records before first, and so many of the others
 pub record Kept (row : Row) (m : ℕ) (ws : List ℕ) (scratch held first : ℕ) (own other : List (Form m)) : Type 0 where
-  pub mine : Holds m ws (field_own row scratch) first own
+  pub mine : Holds m ws (own_at row scratch) first own
   pub theirs : Holds m ws (other_at row scratch) held other
 
 -- the row of a record's shift n, from such rows, the others, and the forms of the records before
