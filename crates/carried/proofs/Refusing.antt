@@ -78,10 +78,11 @@ module _ (f : Exports) (right : MeetsExports f) where
             ∙ fed_refused (feed_refusal (state_in bytes) piece ws) (state_in bytes) bytes piece ws n c;
         ask =
             λ bytes ws b w long n g.
-            let c = (((asking_promised defined defined_meets).tabled (state_in bytes) ws (machine_in bytes b) w).refused n
-            ).1 g in
+            let asks = (asking_promised defined defined_meets).tabled (state_in bytes) ws (machine_in bytes b) w in
+            let c = (asks.refused n).1 g in
             right.asks bytes ws b w
-            ∙ ap (λ k. (k, bytes, ws)) (sym (right_one bytes _ _ long) ∙ asked_refused (ask_of (state_in bytes) ws) n c);
+            ∙ ap (λ k. (k, bytes, ws))
+            (sym (right_one bytes _ _ long) ∙ asked_refused (ask_of (state_in bytes) ws) n c);
         close =
             λ bytes ws b w long n g.
             let c = ((demands.first.close (state_in bytes) ws (machine_in bytes b) w).refused n).1 g in

@@ -38,7 +38,8 @@ pub record Carried (f : Exports) (rule signals bytes ws : List ℕ) (calls : Lis
   pub started : (f.start rule signals bytes ws).0 ≡ found_code (start_of rule signals ws).0.found
   pub bytes_are :
       (lent_after f rule signals bytes ws calls).bytes ≡ written (reached defined rule signals ws calls).state
-  pub state_is : state_in (lent_after f rule signals bytes ws calls).bytes ≡ (reached defined rule signals ws calls).state
+  pub state_is :
+      state_in (lent_after f rule signals bytes ws calls).bytes ≡ (reached defined rule signals ws calls).state
   pub area_is : (lent_after f rule signals bytes ws calls).area ≡ (reached defined rule signals ws calls).area
   pub refused : (piece : List ℕ) → MachineBytes piece
       → let l : Lent = lent_after f rule signals bytes ws calls in

@@ -15,7 +15,7 @@ pub record Exports : Type 0 where
   pub test : (signals : List ℕ) (number : ℕ) (piece : List ℕ) → ℕ
   pub run : (rule signals log ws codes : List ℕ) → ℕ × List ℕ × List ℕ
 
--- they meet the clauses of the exports in `crates/port/src`
+-- they meet the clauses of the exports in `crates/port_c/src`
 pub record MeetsExports (f : Exports) : Type 0 where
   pub starts : (rule signals bytes ws : List ℕ) → MachineBytes rule → MachineBytes signals → MachineBytes bytes
       → MachineWords ws → StartClause rule signals bytes ws (f.start rule signals bytes ws)

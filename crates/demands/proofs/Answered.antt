@@ -1,9 +1,9 @@
 -- A row of the table that passes by the definitions is what start, feed and close answer over bytes.
 -- Assumes nothing.
 use mathlib.Core.Path.{◌≡◌, refl, sym, ap, ap₂, ◌∙◌, subst}
-use mathlib.Core.Bool.{Bool, true, false, not, ◌&&◌, cond, and-eq-true_iff, false≢true}
+use mathlib.Core.Bool.{Bool, true, not, ◌&&◌, cond, and-eq-true_iff, false≢true}
 use mathlib.Core.List.{List, [], ◌∷◌, ◌++◌, map, append_assoc, append-nil}
-use Prim.Native.Nat.{ℕ, ◌+◌, ◌<◌}
+use Prim.Native.Nat.{ℕ, ◌<◌}
 use native.Mathlib.Omega.{arith}
 use lib.Dec.{eqb}
 use lib.ListN.{length, get_or, length-append}
@@ -16,7 +16,7 @@ use Rattle.watcher.specs.declared.state.Found.{Found}
 use Rattle.watcher.specs.declared.state.Found.TheVariants.{Fine, Refused}
 use Rattle.watcher.specs.declared.state.Refusal.{Refusal}
 use Rattle.watcher.specs.Limits.{area_words}
-use Rattle.watcher.specs.Numbers.{refusal_number, verdict_value, verdict_for}
+use Rattle.watcher.specs.Numbers.{refusal_number}
 use Rattle.watcher.specs.Rules.{records_of}
 use Rattle.watcher.specs.Records.{entry_of}
 use Rattle.watcher.specs.Lists.{lists_refusal}
@@ -24,7 +24,7 @@ use Rattle.watcher.specs.State.{is_refused}
 use Rattle.watcher.specs.Calls.{start_refusal, start_of, start_with, wait_of}
 use Rattle.watcher.proofs.Decoded.{Accepted}
 use Rattle.watcher.proofs.Numbers.{verdict_says}
-use Rattle.demands.specs.Watching.{defined, feeding, told, ending}
+use Rattle.demands.specs.Watching.{defined, feeding, ending}
 use Rattle.demands.specs.Logs.{accepts, log_with, going, further, further_by, course_of, log_in}
 use Rattle.demands.specs.Rewritten.{read_rule, parameters_in, held_after, held_in, word_after}
 use Rattle.demands.specs.Tables.{Carries}
@@ -108,7 +108,8 @@ module _ (rule signals : List ℕ) where
 
   -- they are those of the rewriting, and one is behind them
   words_from_lem : (e : Entry) (es : List Entry) (more : List (List ℕ))
-      → (c : Word) × (words_from (parameters_in rule) (read_rule rule) (after (parameters_in rule) (read_rule rule) e es)
+      → (c : Word) × (words_from (parameters_in rule) (read_rule rule)
+      (after (parameters_in rule) (read_rule rule) e es)
       (seen signals more)
       ≡ word_after rule (e ∷ es) ∷ (words_after (e ∷ es) more ++ (c ∷ [])))
   unfolding word_after after fed log_with
@@ -147,7 +148,8 @@ module _ (rule signals : List ℕ) where
 
   module _ (fine : Accepted rule signals) where
     get_words : (log : List Entry) → Right signals log → (records : List (List ℕ))
-        → all_taken signals log records ≡ true → GetWords (held_after rule signals log) records (words_after log records)
+        → all_taken signals log records ≡ true → GetWords (held_after rule signals log) records
+        (words_after log records)
     get_words log r [] t = tt
     get_words log r (bytes ∷ more) t =
         let a = both (accepts log bytes) _ t in (
@@ -207,7 +209,8 @@ module _ (rule signals : List ℕ) where
       logged = subst (λ c. Right signals (log_in c)) course (course_right rule signals fine (map feeding log))
 
       some : (log : List (List ℕ))
-          → same_words (words_of (parameters_in rule) (read_rule rule) (seen signals log)) (words ++ (closing ∷ [])) ≡ true
+          → same_words (words_of (parameters_in rule) (read_rule rule) (seen signals log)) (words ++ (closing ∷ []))
+          ≡ true
           → 0 < length (seen signals log)
       some [] t =
           let z : ⊥

@@ -37,12 +37,13 @@ module _ (f : Functions) (right : Meets f) where
   unfolding handed_on without_asks MachineCalls handed
   alters_nothing h m [] p = refl
   alters_nothing h m (feeding bytes ∷ more) p =
-      alters_nothing _ (one_held f right h (feeding bytes) m p.0) more p.1
+      alters_nothing (handed f h (feeding bytes)) (one_held f right h (feeding bytes) m p.0) more p.1
   alters_nothing h m (asking ∷ more) p =
       ap (λ (ws : List ℕ). handed_on f (record { state = h.state; area = ws }) more)
       (ask_leaves h.state h.area m.0 m.1)
       ∙ alters_nothing h m more p.1
-  alters_nothing h m (closing ∷ more) p = alters_nothing _ (one_held f right h closing m p.0) more p.1
+  alters_nothing h m (closing ∷ more) p =
+      alters_nothing (handed f h closing) (one_held f right h closing m p.0) more p.1
 
   module _ (rule signals ws : List ℕ) where
     -- after any calls asking answers what closing would
@@ -68,7 +69,8 @@ module _ (f : Functions) (right : Meets f) where
       record {
         tabled =
             λ w ws s b.
-            subst (AsTable (close_table w ws)) (sym (ap found_at (ask_is w ws s b) ∙ ask_found w ws)) (close_tabled w ws);
+            subst (AsTable (close_table w ws)) (sym (ap found_at (ask_is w ws s b) ∙ ask_found w ws))
+            (close_tabled w ws);
         leaves = ask_leaves;
         closes = ask_closes;
         alters_nothing = λ h s b. alters_nothing h (s, b);

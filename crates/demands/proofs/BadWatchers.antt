@@ -134,7 +134,8 @@ module _ (f : Functions) (d : Demands f) where
       (course_second two broken broken (second_run 0)))
 
   -- one that asks by the word alone: example 4 is pending and broken if it ends, example 3 pending and kept
-  asked_not : (a : End) (v b : Bool) → word_of v ≡ word_of (not b) → a ≡ Closed (verdict_for v) → a ≡ Closed (verdict_for b)
+  asked_not : (a : End) (v b : Bool) → word_of v ≡ word_of (not b) → a ≡ Closed (verdict_for v)
+      → a ≡ Closed (verdict_for b)
       → ⊥
   unfolding word_of verdict_for
   asked_not a true true w e g = let z : ◌≡◌ {A = ℕ} 0 1 = cc in omega arith

@@ -24,7 +24,8 @@ use Rattle.watcher.specs.Limits.{most_parameters}
 use Rattle.watcher.specs.Records.{wrong_record, time_of, entry_of}
 use Rattle.watcher.specs.Numbers.{saying, verdict_for, stage_of, Says}
 use Rattle.watcher.specs.State.{broken_state}
-use Rattle.watcher.specs.Calls.{wrong_area, is_closed, is_fresh, too_early, start_of, start_with, start_refusal, feed_of}
+use Rattle.watcher.specs.Calls.{wrong_area, is_closed, is_fresh, too_early, start_of, start_with, start_refusal}
+use Rattle.watcher.specs.Calls.{feed_of}
 use Rattle.watcher.specs.Calls.{fresh_state, running_state, closed_state, feed_refusal, close_refusal}
 use Rattle.watcher.specs.Runs.{Held}
 use Rattle.watcher.proofs.Decoded.{Accepted}
@@ -93,7 +94,8 @@ module _ (h : Held) (last : ℕ) (ready : Ready h last) (bytes : List ℕ) where
 module _ (rule signals : List ℕ) (fine : Accepted rule signals) where
   -- the state and area after a log are ready
   pub ready_after : (log : List Entry) → Right signals log → Ready (held_after rule signals log) (last_time log)
-  unfolding held_after held_known fresh_state running_state state_in stage_of is_closed too_early last_time time_at entry_at
+  unfolding held_after held_known fresh_state running_state state_in stage_of is_closed too_early last_time time_at
+      entry_at
   ready_after [] r =
       record {
         sound = (

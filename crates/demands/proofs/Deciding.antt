@@ -103,7 +103,8 @@ module _ (rule signals : List ℕ) (fine : Accepted rule signals) where
   word_taken log r bytes a = go (judge log bytes)
     where
       go : Judged log bytes
-          → Says (told defined (held_after rule signals log) bytes) (saying (word_after rule (log_with signals log bytes)))
+          → Says (told defined (held_after rule signals log) bytes)
+          (saying (word_after rule (log_with signals log bytes)))
       go (taken _ n h) = (fed_turn rule signals fine log r bytes n h).0
       go (wrong b n) = let z : ◌≡◌ {A = ℕ} 0 1 = cc in let x : ⊥ = omega arith in absurd x
       go (early b n h) = let z : ◌≡◌ {A = ℕ} 0 1 = cc in let x : ⊥ = omega arith in absurd x

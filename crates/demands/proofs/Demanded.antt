@@ -13,7 +13,8 @@ use Rattle.watcher.specs.declared.state.Ended.{Ended}
 use Rattle.watcher.specs.declared.state.Word.{Word}
 use Rattle.watcher.specs.Lists.{list_tests}
 use Rattle.watcher.specs.Numbers.{refusal_number, saying, Says, found_in, found_at, decided}
-use Rattle.watcher.specs.Calls.{zero_state, start_refusal, start_with, start_of, state_tests, feed_refusal, feed_with, feed_of}
+use Rattle.watcher.specs.Calls.{zero_state, start_refusal, start_with, start_of, state_tests, feed_refusal, feed_with}
+use Rattle.watcher.specs.Calls.{feed_of}
 use Rattle.watcher.specs.Calls.{close_refusal, close_with, close_of}
 use Rattle.watcher.specs.Machine.{MachineBytes}
 use Rattle.watcher.proofs.Decoded.{Accepted}

@@ -154,7 +154,8 @@ module _ (rule signals : List ℕ) (fine : Accepted rule signals) where
   pub feed_first : (bytes : List ℕ) → wrong_record bytes ≡ false
       → FedInto rule signals (first (parameters_in rule) (read_rule rule) (entry_of signals (records_of signals) bytes))
       (feed_of (held_after rule signals []).state bytes (held_after rule signals []).area)
-  unfolding held_after held_known fresh_state state_in stage_of is_closed too_early fed_by known_next running_state first
+  unfolding held_after held_known fresh_state state_in stage_of is_closed too_early fed_by known_next running_state
+      first
       parameters_in
   feed_first bytes right =
       subst (FedInto rule signals (first m (read_rule rule) e))
@@ -184,9 +185,11 @@ module _ (rule signals : List ℕ) (fine : Accepted rule signals) where
   -- a later record
   pub feed_later : (s : Known (parameters_in rule)) → Lawful rule signals s → (bytes : List ℕ)
       → wrong_record bytes ≡ false → s.last.time ≤ time_of bytes
-      → FedInto rule signals (feed (parameters_in rule) (read_rule rule) s (entry_of signals (records_of signals) bytes))
+      → FedInto rule signals (feed (parameters_in rule) (read_rule rule) s
+      (entry_of signals (records_of signals) bytes))
       (feed_of (held_known rule signals s).state bytes (held_known rule signals s).area)
-  unfolding held_known fresh_state state_in stage_of is_closed too_early fed_by known_next running_state feed parameters_in
+  unfolding held_known fresh_state state_in stage_of is_closed too_early fed_by known_next running_state feed
+      parameters_in
   feed_later s ok bytes right time =
       subst (FedInto rule signals (feed m (read_rule rule) s e))
       (sym
@@ -214,7 +217,8 @@ module _ (rule signals : List ℕ) (fine : Accepted rule signals) where
   -- closing
   pub close_known : (s : Known (parameters_in rule)) → Lawful rule signals s
       → ClosedInto rule signals s (close_of (held_known rule signals s).state (held_known rule signals s).area)
-  unfolding held_known fresh_state state_in stage_of is_closed is_fresh closed_by known_now last_in running_state closed_state
+  unfolding held_known fresh_state state_in stage_of is_closed is_fresh closed_by known_now last_in running_state
+      closed_state
       parameters_in
   close_known s ok =
       subst (ClosedInto rule signals s)

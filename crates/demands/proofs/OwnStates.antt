@@ -112,7 +112,8 @@ module _ (rule signals : List ℕ) (fine : Accepted rule signals) where
   pub broken_in : (p : Phase) (ws : List ℕ) → signals_above (records_of signals) (stage_of p) ≡ false
       → bits_above most_parameters (parameters_in rule) ws ≡ false
       → not_zero_from most_parameters (parameters_in rule) ws ≡ false
-      → wrong_in_phase (state_in rule signals p) ws (stage_of p) ≡ false → broken_state (state_in rule signals p) ws ≡ false
+      → wrong_in_phase (state_in rule signals p) ws (stage_of p) ≡ false
+      → broken_state (state_in rule signals p) ws ≡ false
   unfolding state_in
   broken_in p ws above bits unused rows =
       not_broken (state_in rule signals p) ws

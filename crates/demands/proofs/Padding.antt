@@ -4,7 +4,7 @@ use mathlib.Core.Path.{◌≡◌, refl, sym, ap, ap₂, ◌∙◌, subst}
 use mathlib.Core.Bool.{Bool, true, false, cond}
 use mathlib.Core.Logic.{⊎_elim}
 use mathlib.Core.List.{List}
-use Prim.Native.Nat.{ℕ, zero, suc, ◌+◌, ◌-◌, ◌*◌, ◌^◌, ◌≤◌, ◌<◌}
+use Prim.Native.Nat.{ℕ, zero, suc, ◌+◌, ◌*◌, ◌^◌, ◌≤◌, ◌<◌}
 use native.Mathlib.Omega.{arith}
 use native.Mathlib.Nat.{lt_of_lt_of_le}
 use lib.Pow.{pow_pos, pow_mono}
@@ -87,10 +87,12 @@ module _ (list : List ℕ) (short : length list ≤ list_bytes) where
       → test_of (padded list) (records_of list) bytes n ≡ test_of list (records_of list) bytes n
   test_padded bytes n = ⊎_elim within past (less_or_not n (records_of list))
     where
-      past : records_of list ≤ n → test_of (padded list) (records_of list) bytes n ≡ test_of list (records_of list) bytes n
+      past : records_of list ≤ n → test_of (padded list) (records_of list) bytes n
+          ≡ test_of list (records_of list) bytes n
       past h = sym (test_past (padded list) (records_of list) bytes n h) ∙ test_past list (records_of list) bytes n h
 
-      within : n < records_of list → test_of (padded list) (records_of list) bytes n ≡ test_of list (records_of list) bytes n
+      within : n < records_of list → test_of (padded list) (records_of list) bytes n
+          ≡ test_of list (records_of list) bytes n
       within h =
           let k = count_padded n h in
           sym (test_here (padded list) (records_of list) bytes n h k.1 k.0) ∙ by_padded bytes n

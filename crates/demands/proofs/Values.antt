@@ -60,7 +60,8 @@ module _ (rule signals : List ℕ) (fine : Accepted rule signals) where
         → value_of ((e ∷ es) ++ more) (read_rule rule) ≡ b
     unfolding word_after parameters_in
     value_decided b w more rising =
-        word_decides (read_rule rule) rule_ordered (parameters_in rule) (first_of_fits (read_rule rule)) rule_some e es b
+        word_decides (read_rule rule) rule_ordered (parameters_in rule)
+        (first_of_fits (read_rule rule)) rule_some e es b
         w more rising
 
     word_decided : (b : Bool) → word_after rule (e ∷ es) ≡ word_of b → (more : List Entry)

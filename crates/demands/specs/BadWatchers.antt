@@ -1,4 +1,5 @@
--- Watchers that must be caught (document 01, "What each statement has to settle"; one more by R-8): each by what it does
+-- Watchers that must be caught (document 01, "What each statement has to settle"; one more by R-8): each by what it
+-- does
 -- at every start that a machine can make, or in every run.
 use Rattle.std.specs.Prelude.{◌≡◌, Bool, List, [], ◌∷◌, ◌++◌, ℕ}
 use Rattle.meaning.specs.Rule.{Entry}

@@ -1,6 +1,7 @@
 -- Document 01's starred examples, one to twelve, and a few more on channels, senses and horizons, as one table over
 -- bytes; when a row of it passes by the definitions alone, and what start, feed and close then answer.
-use Rattle.std.specs.Prelude.{◌≡◌, Bool, true, false, not, ◌&&◌, List, [], ◌∷◌, ◌++◌, map, ℕ, ◌+◌, ◌-◌, ◌/◌, ◌%◌, eqb, length}
+use Rattle.std.specs.Prelude.{◌≡◌, Bool, true, false, not, ◌&&◌, List, [], ◌∷◌, ◌++◌, map, ℕ, ◌+◌, ◌-◌, ◌/◌, ◌%◌, eqb}
+use Rattle.std.specs.Prelude.{length}
 use Rattle.meaning.specs.Rule.{Node, Entry}
 use Rattle.meaning.specs.Meaning.{value_of}
 use Rattle.meaning.specs.Horizon.{Horizon, within, never, horizon}

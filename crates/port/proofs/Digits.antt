@@ -10,8 +10,8 @@ use Rattle.ground.specs.Bytes.{little}
 use Rattle.port.specs.Layout.{digit}
 
 -- where n bytes are those of a number below 256 ^ n, they make that number
-pub little_digits : (bytes : List ℕ) (at n x : ℕ) → ((k : ℕ) → k < n → get_or bytes (at + k) 0 ≡ digit x k) → x < 256 ^ n
-    → little bytes at n ≡ x
+pub little_digits : (bytes : List ℕ) (at n x : ℕ) → ((k : ℕ) → k < n → get_or bytes (at + k) 0 ≡ digit x k)
+    → x < 256 ^ n → little bytes at n ≡ x
 unfolding little digit
 little_digits bytes at zero x p h = omega arith
 little_digits bytes at (suc n) x p h =

@@ -159,7 +159,8 @@ unfolding state_in
 read_none bytes w h e = rw (lt-ltb 3 (get_or bytes phase_place 0) h) e
 
 pub read_some : (bytes rule list : List ℕ) (number records signals time word : ℕ) (phase : Phase)
-    → number ≡ get_or bytes phase_place 0 → number ≤ 3 → rule ≡ list_at bytes rule_place → list ≡ list_at bytes list_place
+    → number ≡ get_or bytes phase_place 0 → number ≤ 3
+    → rule ≡ list_at bytes rule_place → list ≡ list_at bytes list_place
     → time ≡ little bytes time_place 4 → word ≡ little bytes word_place 2 → phase ≡ phase_with number time word
     → records ≡ little bytes records_place 8 → signals ≡ little bytes signals_place 8
     → record { rule = rule; records = records; list = list; signals = signals; phase = phase } ≡ state_in bytes

@@ -47,9 +47,11 @@ machine_in bytes h = go (ltb 3 (get_or bytes phase_place 0))
     go false =
         record {
           long_rule = length_tab list_bytes (λ i. get_or bytes (rule_place + i) 0);
-          rule = bytes_tab list_bytes (λ i. get_or bytes (rule_place + i) 0) (omega arith) (λ i. h.small (rule_place + i));
+          rule = bytes_tab list_bytes (λ i. get_or bytes (rule_place + i) 0) (omega arith)
+              (λ i. h.small (rule_place + i));
           long_list = length_tab list_bytes (λ i. get_or bytes (list_place + i) 0);
-          list = bytes_tab list_bytes (λ i. get_or bytes (list_place + i) 0) (omega arith) (λ i. h.small (list_place + i));
+          list = bytes_tab list_bytes (λ i. get_or bytes (list_place + i) 0) (omega arith)
+              (λ i. h.small (list_place + i));
           records = little_lt bytes records_place 8 h.small;
           signals = little_lt bytes signals_place 8 h.small;
           phase = phase_machine (get_or bytes phase_place 0) _ _ (little_lt bytes time_place 4 h.small)

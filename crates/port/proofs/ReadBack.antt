@@ -103,7 +103,8 @@ phase_back (Closed Kept) = refl
 phase_back (Closed Broken) = refl
 
 -- its time has 32 bits, and its signals 16
-last_small : (p : Phase) → MachinePhase p → ((last_in (stage_of p)).time < 2 ^ 32) × ((last_in (stage_of p)).signals < 2 ^ 16)
+last_small : (p : Phase) → MachinePhase p
+    → ((last_in (stage_of p)).time < 2 ^ 32) × ((last_in (stage_of p)).signals < 2 ^ 16)
 unfolding MachinePhase last_in stage_of
 last_small Fresh m = (omega arith, omega arith)
 last_small (Running time signals) m = m

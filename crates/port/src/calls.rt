@@ -13,13 +13,7 @@ use crate::layout::{STATE_BYTES, read_state, write_state};
 use watcher::state::Watcher;
 
 // Start a watcher.
-#[unsafe(no_mangle)]
-pub extern "C" fn hunchcold_start(
-    rule: &[u8],
-    signals: &[u8],
-    bytes: &mut [u8],
-    area: &mut [u64],
-) -> u8
+pub fn hunchcold_start(rule: &[u8], signals: &[u8], bytes: &mut [u8], area: &mut [u64]) -> u8
     ensures { StartClause rule.now signals.now bytes.old area.old
         (result, bytes.new, area.new) }
 {
@@ -34,8 +28,7 @@ pub extern "C" fn hunchcold_start(
 }
 
 // Would this record be refused, and by which number.
-#[unsafe(no_mangle)]
-pub extern "C" fn hunchcold_would_refuse(bytes: &[u8], piece: &[u8], area: &[u64]) -> u8
+pub fn hunchcold_would_refuse(bytes: &[u8], piece: &[u8], area: &[u64]) -> u8
     ensures { WouldRefuseClause bytes.now piece.now area.now result }
 {
     if bytes.len() != STATE_BYTES {
@@ -62,8 +55,7 @@ fn write_told(told: Told, next: Watcher, bytes: &mut [u8]) -> u8
 }
 
 // Feed one record.
-#[unsafe(no_mangle)]
-pub extern "C" fn hunchcold_feed(bytes: &mut [u8], piece: &[u8], area: &mut [u64]) -> u8
+pub fn hunchcold_feed(bytes: &mut [u8], piece: &[u8], area: &mut [u64]) -> u8
     ensures { FeedClause bytes.old piece.now area.old
         (result, bytes.new, area.new) }
 {
@@ -78,8 +70,7 @@ pub extern "C" fn hunchcold_feed(bytes: &mut [u8], piece: &[u8], area: &mut [u64
 }
 
 // How the log ends, were this the last record.
-#[unsafe(no_mangle)]
-pub extern "C" fn hunchcold_ask(bytes: &[u8], area: &[u64]) -> u8
+pub fn hunchcold_ask(bytes: &[u8], area: &[u64]) -> u8
     ensures { AskClause bytes.now area.now (result, bytes.now, area.now) }
 {
     if bytes.len() != STATE_BYTES {
@@ -90,8 +81,7 @@ pub extern "C" fn hunchcold_ask(bytes: &[u8], area: &[u64]) -> u8
 }
 
 // Close the log.
-#[unsafe(no_mangle)]
-pub extern "C" fn hunchcold_close(bytes: &mut [u8], area: &mut [u64]) -> u8
+pub fn hunchcold_close(bytes: &mut [u8], area: &mut [u64]) -> u8
     ensures { CloseClause bytes.old area.old (result, bytes.new, area.new) }
 {
     if bytes.len() != STATE_BYTES {
@@ -105,8 +95,7 @@ pub extern "C" fn hunchcold_close(bytes: &mut [u8], area: &mut [u64]) -> u8
 }
 
 // How long the rule can stay open, in minutes.
-#[unsafe(no_mangle)]
-pub extern "C" fn hunchcold_horizon(bytes: &[u8]) -> u64
+pub fn hunchcold_horizon(bytes: &[u8]) -> u64
     ensures { HorizonClause bytes.now result }
 {
     if bytes.len() != STATE_BYTES {

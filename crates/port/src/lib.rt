@@ -1,4 +1,4 @@
-// The watcher for C and Rust: exports over numbers and lent lists.
+// What the exports for C and Rust do, over numbers and lent lists.
 #![tactic(auto)]
 
 pub mod calls;

@@ -7,8 +7,7 @@ use watcher::signals::wrong_signals;
 use watcher::state::{Refusal, Watcher};
 
 // Test the signal with a number in the list: whether it holds in the record, or has no reading there.
-#[unsafe(no_mangle)]
-pub extern "C" fn hunchcold_test(signals: &[u8], number: usize, piece: &[u8]) -> u8
+pub fn hunchcold_test(signals: &[u8], number: usize, piece: &[u8]) -> u8
     ensures { TestClause signals.now number piece.now result }
 {
     if wrong_signals(signals) {
