@@ -10,11 +10,12 @@ mod tally;
 
 use crate::cases::compare::random_cases;
 use crate::tally::{PLACES, tally_lines};
+use std::io;
 use watcher::state::Watcher;
 
-fn main() {
+fn main(rt: HostRuntime) -> io::Result<()> {
     let mut area = [0u64; Watcher::WORDS];
     let mut tally = [0u64; PLACES];
-    random_cases(5000, &mut area, &mut tally);
-    tally_lines(&tally);
+    random_cases(&rt, 5000, &mut area, &mut tally)?;
+    tally_lines(&rt, &tally)
 }

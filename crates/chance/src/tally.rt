@@ -2,6 +2,7 @@
 // refusals; and how many were not the wanted ones.
 use crate::answers::print::{number, text};
 use ground::bytes::byte;
+use std::io;
 
 // Places of the tally, a letter each. A word's, an ask's, a test's and a refusal's is its letter.
 pub(crate) const PLACES: usize = 128;
@@ -72,39 +73,41 @@ pub(crate) fn count_letters(tally: &mut [u64], said: &[u8]) {
 }
 
 // Writes the count at a place.
-fn put_count(tally: &[u64], place: u8) {
+fn put_count(rt: &impl Print, tally: &[u64], place: u8) -> io::Result<()> {
     let at = place as usize;
     if at < tally.len() {
-        number(tally[at]);
+        number(rt, tally[at])?;
     }
+    Ok(())
 }
 
 // Writes a character of the lines behind another: an equals sign as a blank, and the letter behind it as the count.
-fn put_behind(tally: &[u64], before: u8, character: u8) {
+fn put_behind(rt: &impl Print, tally: &[u64], before: u8, character: u8) -> io::Result<()> {
     if before == b'=' {
-        put_count(tally, character);
-        return;
+        return put_count(rt, tally, character);
     }
     if character == b'=' {
-        text(b" ");
+        text(rt, b" ")
     } else {
-        text(&[character]);
+        text(rt, &[character])
     }
 }
 
 // Writes lines of the tally, each a name, an equals sign and a place.
-fn lines(tally: &[u64], names: &[u8]) {
+fn lines(rt: &impl Print, tally: &[u64], names: &[u8]) -> io::Result<()> {
     let mut before = 0;
     for place in 0..names.len() {
         let character = byte(names, place);
-        put_behind(tally, before, character);
+        put_behind(rt, tally, before, character)?;
         before = character;
     }
+    Ok(())
 }
 
 // Writes the whole tally; lists and logs bring up no refusal 7.
-pub(crate) fn tally_lines(tally: &[u64]) {
+pub(crate) fn tally_lines(rt: &impl Print, tally: &[u64]) -> io::Result<()> {
     lines(
+        rt,
         tally,
         b"cases=A
 kept=K
@@ -133,5 +136,5 @@ refused 10=a
 refused 11=b
 differences=Z
 ",
-    );
+    )
 }

@@ -9,10 +9,11 @@ mod told;
 
 use crate::listed::examples;
 use crate::readings::readings;
+use std::io;
 use watcher::state::Watcher;
 
-fn main() {
+fn main(rt: HostRuntime) -> io::Result<()> {
     let mut area = [0u64; Watcher::WORDS];
-    examples(&mut area);
-    readings(&mut area);
+    examples(&rt, &mut area)?;
+    readings(&rt, &mut area)
 }

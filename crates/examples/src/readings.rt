@@ -2,6 +2,7 @@
 use crate::given::{put_in, put_signal, put_two, put_wind};
 use crate::listed::signal_runs;
 use crate::told::{right, tell};
+use std::io;
 use watcher::readings::{Tested, test_signal};
 
 // Channels.
@@ -55,7 +56,7 @@ fn mark(record: &[u8], channel: u8, sense: u8, limit: u64, n: usize) -> u8 {
 }
 
 // The marks of a channel against limits 32767, 0 and -32768: for each limit "at least", then "below".
-fn row(name: &[u8], record: &[u8], channel: u8, wanted: &[u8]) {
+fn row(rt: &impl Print, name: &[u8], record: &[u8], channel: u8, wanted: &[u8]) -> io::Result<()> {
     let said = [
         mark(record, channel, 0, 32767, 0),
         mark(record, channel, 1, 32767, 0),
@@ -66,79 +67,89 @@ fn row(name: &[u8], record: &[u8], channel: u8, wanted: &[u8]) {
         mark(record, channel, 0, MINUS_32768, 0),
         mark(record, channel, 1, MINUS_32768, 0),
     ];
-    tell(name, right(&said, wanted));
+    tell(rt, name, right(rt, &said, wanted)?)
 }
 
 // A row of air; the wind beside it has no reading.
-fn air(name: &[u8], number: u64, wanted: &[u8]) {
+fn air(rt: &impl Print, name: &[u8], number: u64, wanted: &[u8]) -> io::Result<()> {
     let record = weather(number, 65535, MS);
-    row(name, &record, AIR, wanted);
+    row(rt, name, &record, AIR, wanted)
 }
 
 // A row of wind in a unit; the air beside it has no reading.
-fn wind(name: &[u8], number: u64, unit: u8, wanted: &[u8]) {
+fn wind(rt: &impl Print, name: &[u8], number: u64, unit: u8, wanted: &[u8]) -> io::Result<()> {
     let record = weather(32767, number, unit);
-    row(name, &record, WIND, wanted);
+    row(rt, name, &record, WIND, wanted)
 }
 
 // Air: 32767 is no reading; 65535 is -1, and -32768 the lowest limit itself.
-fn air_rows() {
-    air(b"air 32766", 32766, b"-+ +- +-");
-    air(b"air 32767", 32767, b"?? ?? ??");
-    air(b"air -1", MINUS_1, b"-+ -+ +-");
-    air(b"air -32768", MINUS_32768, b"-+ -+ +-");
+fn air_rows(rt: &impl Print) -> io::Result<()> {
+    air(rt, b"air 32766", 32766, b"-+ +- +-")?;
+    air(rt, b"air 32767", 32767, b"?? ?? ??")?;
+    air(rt, b"air -1", MINUS_1, b"-+ -+ +-")?;
+    air(rt, b"air -32768", MINUS_32768, b"-+ -+ +-")
 }
 
 // Wind: 65535 is no reading. In m/s 32767 and 65534 meet every limit; in km/h neither meets 32767, since five times
 // each, 163835 and 327670, is below 18 times that, 589806.
-fn wind_rows() {
-    wind(b"m/s 32766", 32766, MS, b"-+ +- +-");
-    wind(b"m/s 32767", 32767, MS, b"+- +- +-");
-    wind(b"m/s 65534", 65534, MS, b"+- +- +-");
-    wind(b"m/s 65535", 65535, MS, b"?? ?? ??");
-    wind(b"km/h 32767", 32767, KMH, b"-+ +- +-");
-    wind(b"km/h 65534", 65534, KMH, b"-+ +- +-");
-    wind(b"km/h 65535", 65535, KMH, b"?? ?? ??");
+fn wind_rows(rt: &impl Print) -> io::Result<()> {
+    wind(rt, b"m/s 32766", 32766, MS, b"-+ +- +-")?;
+    wind(rt, b"m/s 32767", 32767, MS, b"+- +- +-")?;
+    wind(rt, b"m/s 65534", 65534, MS, b"+- +- +-")?;
+    wind(rt, b"m/s 65535", 65535, MS, b"?? ?? ??")?;
+    wind(rt, b"km/h 32767", 32767, KMH, b"-+ +- +-")?;
+    wind(rt, b"km/h 65534", 65534, KMH, b"-+ +- +-")?;
+    wind(rt, b"km/h 65535", 65535, KMH, b"?? ?? ??")
 }
 
 // Vents and rain read where neither air nor wind does; a signal past the list does not hold even there.
-fn other_rows() {
+fn other_rows(rt: &impl Print) -> io::Result<()> {
     let record = weather(32767, 65535, KMH);
-    row(b"lee 100", &record, LEE, b"-+ +- +-");
-    row(b"windward 0", &record, WINDWARD, b"-+ +- +-");
-    row(b"rain 1", &record, RAIN, b"-+ +- +-");
+    row(rt, b"lee 100", &record, LEE, b"-+ +- +-")?;
+    row(rt, b"windward 0", &record, WINDWARD, b"-+ +- +-")?;
+    row(rt, b"rain 1", &record, RAIN, b"-+ +- +-")?;
     let past = mark(&record, AIR, 0, 0, 1) == b'-';
     tell(
+        rt,
         b"past the list",
         past & (mark(&record, WIND, 1, 0, 1) == b'-'),
-    );
+    )
 }
 
 // Runs the rule of one signal, the air at least or below 300, over one record.
-fn air_runs(sense: u8, number: u64, wanted: &[u8], area: &mut [u64]) -> bool {
+fn air_runs(
+    rt: &impl Print,
+    sense: u8,
+    number: u64,
+    wanted: &[u8],
+    area: &mut [u64],
+) -> io::Result<bool> {
     let signals = one_signal(AIR, sense, 300);
     let record = weather(number, 0, KMH);
-    signal_runs(&signals, &record, wanted, area)
+    signal_runs(rt, &signals, &record, wanted, area)
 }
 
 // A record with no reading of the air is accepted, and the air is neither at least 300 nor below it.
-fn runs(area: &mut [u64]) {
-    let at_least = air_runs(0, 300, b"P.K bya", area) & air_runs(0, 299, b"P.B bna", area);
+fn runs(rt: &impl Print, area: &mut [u64]) -> io::Result<()> {
+    let at_least = air_runs(rt, 0, 300, b"P.K bya", area)?
+        & air_runs(rt, 0, 299, b"P.B bna", area)?;
     tell(
+        rt,
         b"air at least 300",
-        at_least & air_runs(0, 32767, b"P.B bna", area),
-    );
-    let below = air_runs(1, 299, b"P.K bya", area) & air_runs(1, 300, b"P.B bna", area);
+        at_least & air_runs(rt, 0, 32767, b"P.B bna", area)?,
+    )?;
+    let below = air_runs(rt, 1, 299, b"P.K bya", area)? & air_runs(rt, 1, 300, b"P.B bna", area)?;
     tell(
+        rt,
         b"air below 300",
-        below & air_runs(1, 32767, b"P.B bna", area),
-    );
+        below & air_runs(rt, 1, 32767, b"P.B bna", area)?,
+    )
 }
 
 // The rows of tests, then the runs.
-pub(crate) fn readings(area: &mut [u64]) {
-    air_rows();
-    wind_rows();
-    other_rows();
-    runs(area);
+pub(crate) fn readings(rt: &impl Print, area: &mut [u64]) -> io::Result<()> {
+    air_rows(rt)?;
+    wind_rows(rt)?;
+    other_rows(rt)?;
+    runs(rt, area)
 }

@@ -1,11 +1,11 @@
 // Lines on standard output: an example is right, or it is not and what was said stands before its line.
 use crate::given::first;
 use ground::bytes::zeros_from;
-use libc::STDOUT_FILENO;
+use std::io;
 
 // Writes text as it stands.
-fn text(bytes: &[u8]) {
-    io::write_all(STDOUT_FILENO, bytes);
+fn text(rt: &impl Print, bytes: &[u8]) -> io::Result<()> {
+    rt.write_all(bytes)
 }
 
 // Whether a text, with zeros behind it, is what was said.
@@ -17,24 +17,24 @@ fn same(said: &[u8], wanted: &[u8]) -> bool {
 }
 
 // Whether what was said is what is wanted; else both are written.
-pub(crate) fn right(said: &[u8], wanted: &[u8]) -> bool {
+pub(crate) fn right(rt: &impl Print, said: &[u8], wanted: &[u8]) -> io::Result<bool> {
     if same(said, wanted) {
-        return true;
+        return Ok(true);
     }
-    text(b"DIFFERENCE said ");
-    text(said);
-    text(b" wanted ");
-    text(wanted);
-    text(b"\n");
-    false
+    text(rt, b"DIFFERENCE said ")?;
+    text(rt, said)?;
+    text(rt, b" wanted ")?;
+    text(rt, wanted)?;
+    text(rt, b"\n")?;
+    Ok(false)
 }
 
 // Writes the line of an example.
-pub(crate) fn tell(name: &[u8], ok: bool) {
-    text(name);
+pub(crate) fn tell(rt: &impl Print, name: &[u8], ok: bool) -> io::Result<()> {
+    text(rt, name)?;
     if ok {
-        text(b" ok\n");
+        text(rt, b" ok\n")
     } else {
-        text(b" not ok\n");
+        text(rt, b" not ok\n")
     }
 }

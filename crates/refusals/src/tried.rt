@@ -1,8 +1,8 @@
 // Answers as numbers, each held to the one that is wanted, and the lines of how many were right.
-ghost use Rattle.std.specs.Prelude.{◌≤◌};
+ghost use Rattle.std.specs.Prelude.{◌≤◌, IfOk};
 
 use crate::given::RECORD;
-use libc::STDOUT_FILENO;
+use std::io;
 use watcher::state::{Answer, End, Found, Verdict, Watcher};
 
 // The numbers of the verdicts, above those of the refusals.
@@ -38,33 +38,38 @@ pub(crate) fn end_number(end: End) -> usize {
 }
 
 // Writes text as it stands.
-fn text(bytes: &[u8]) {
-    io::write_all(STDOUT_FILENO, bytes);
+fn text(rt: &impl Print, bytes: &[u8]) -> io::Result<()> {
+    rt.write_all(bytes)
 }
 
 // Writes a number.
-fn number(n: u64) {
-    io::print_decimal(STDOUT_FILENO, n);
+fn number(rt: &impl Print, n: u64) -> io::Result<()> {
+    print!(rt; "{n}")
 }
 
 // One where the number is the wanted one; else a line is written.
-pub(crate) fn one_if(said: usize, wanted: usize) -> u64
-    ensures { result ≤ 1 }
+pub(crate) fn one_if(rt: &impl Print, said: usize, wanted: usize) -> io::Result<u64>
+    ensures { IfOk result (λ n. n ≤ 1) }
 {
     if said == wanted {
-        return 1;
+        return Ok(1);
     }
-    text(b"DIFFERENCE said ");
-    number(said as u64);
-    text(b" wanted ");
-    number(wanted as u64);
-    text(b"\n");
-    0
+    text(rt, b"DIFFERENCE said ")?;
+    number(rt, said as u64)?;
+    text(rt, b" wanted ")?;
+    number(rt, wanted as u64)?;
+    text(rt, b"\n")?;
+    Ok(0)
 }
 
 // How many refuse by the number: feeding a record, asking, asking again, and closing.
-pub(crate) fn refused_by(wanted: usize, watcher: Watcher, area: &mut [u64]) -> u64
-    ensures { result ≤ 4 }
+pub(crate) fn refused_by(
+    rt: &impl Print,
+    wanted: usize,
+    watcher: Watcher,
+    area: &mut [u64],
+) -> io::Result<u64>
+    ensures { IfOk result (λ n. n ≤ 4) }
 {
     let fed = watcher.feed(&RECORD, area);
     let answer = fed.answer;
@@ -72,14 +77,14 @@ pub(crate) fn refused_by(wanted: usize, watcher: Watcher, area: &mut [u64]) -> u
     let second = watcher.ask(area);
     let ended = watcher.close(area);
     let end = ended.answer;
-    let asked = one_if(end_number(first), wanted) + one_if(end_number(second), wanted);
-    one_if(answer_number(answer), wanted) + asked + one_if(end_number(end), wanted)
+    let asked = one_if(rt, end_number(first), wanted)? + one_if(rt, end_number(second), wanted)?;
+    Ok(one_if(rt, answer_number(answer), wanted)? + asked + one_if(rt, end_number(end), wanted)?)
 }
 
 // Writes a line: a name, and how many answers were right.
-pub(crate) fn line(name: &[u8], right: u64) {
-    text(name);
-    text(b" ");
-    number(right);
-    text(b"\n");
+pub(crate) fn line(rt: &impl Print, name: &[u8], right: u64) -> io::Result<()> {
+    text(rt, name)?;
+    text(rt, b" ")?;
+    number(rt, right)?;
+    text(rt, b"\n")
 }

@@ -1,5 +1,6 @@
 // What is wanted besides the lines.
-use console::same;
+use console::{arg, same};
+use std::env::Env;
 
 // Nothing, the past rows and the remainder after each line, or more behind the word of each record.
 #[derive(Clone, Copy)]
@@ -21,9 +22,9 @@ impl Wanted {
 }
 
 // What is wanted by an argument: nothing by one that is missing, and by any other word.
-pub(crate) fn wanted_by(argument: usize) -> Wanted {
+pub(crate) fn wanted_by(rt: &impl Env, argument: usize) -> Wanted {
     let mut word = [0u8; 8];
-    let n = os::arg(argument, &mut word);
+    let n = arg(rt, argument, &mut word);
     if same(&word[..n], b"rows") {
         return Wanted::Rows;
     }
