@@ -1,13 +1,11 @@
 -- What the exports refuse, whatever bytes are lent.
 -- Assumes nothing.
+use Rattle.std.proofs.Common.{Ok, Err}
 use mathlib.Core.Path.{◌≡◌, sym, ap, ◌∙◌}
 use mathlib.Core.List.{List}
 use Prim.Native.Nat.{ℕ}
 use Rattle.watcher.specs.declared.state.Watcher.{Watcher}
-use Rattle.watcher.specs.declared.state.End.{End}
-use Rattle.watcher.specs.declared.state.End.TheVariants as end
-use Rattle.watcher.specs.declared.state.Found.{Found}
-use Rattle.watcher.specs.declared.state.Found.TheVariants.{Fine, Refused}
+use Rattle.watcher.specs.Answers.{Found, End}
 use Rattle.watcher.specs.Calls.{feed_refusal, feed_with, feed_of, ask_of, close_refusal, close_with, close_of}
 use Rattle.watcher.specs.Numbers.{found_in, found_at}
 use Rattle.demands.specs.Watching.{defined}
@@ -31,27 +29,27 @@ demands = demanded defined defined_meets
 -- a refusal's code is its number, and the bytes stay
 found_number : (f : Found) (n : ℕ) → tables.Carries f n → found_code f ≡ n
 unfolding found_code tables.Carries
-found_number Fine n c = absurd c
-found_number (Refused r) n c = c
+found_number (Ok tt) n c = absurd c
+found_number (Err r) n c = c
 
 fed_refused : (f : Found) (w : Watcher) (bytes piece ws : List ℕ) (n : ℕ)
     → tables.Carries (found_in (feed_with f w piece ws).0.answer) n
     → fed_bytes (feed_with f w piece ws) bytes ≡ (n, bytes, ws)
 unfolding feed_with fed_bytes told_of told_bytes kept_unless told_code found_in tables.Carries
-fed_refused Fine w bytes piece ws n c = absurd c
-fed_refused (Refused r) w bytes piece ws n c = ap (λ x. (x, bytes, ws)) c
+fed_refused (Ok tt) w bytes piece ws n c = absurd c
+fed_refused (Err r) w bytes piece ws n c = ap (λ x. (x, bytes, ws)) c
 
 closed_refused : (f : Found) (w : Watcher) (bytes ws : List ℕ) (n : ℕ)
     → tables.Carries (found_at (close_with f w ws).0.answer) n
     → ended_bytes (close_with f w ws) bytes ≡ (n, bytes, ws)
 unfolding close_with ended_bytes told_at told_bytes kept_unless told_code found_at tables.Carries
-closed_refused Fine w bytes ws n c = absurd c
-closed_refused (Refused r) w bytes ws n c = ap (λ x. (x, bytes, ws)) c
+closed_refused (Ok tt) w bytes ws n c = absurd c
+closed_refused (Err r) w bytes ws n c = ap (λ x. (x, bytes, ws)) c
 
 asked_refused : (e : End) (n : ℕ) → tables.Carries (found_at e) n → end_code e ≡ n
 unfolding end_code told_at told_code found_at tables.Carries
-asked_refused (end.Closed v) n c = absurd c
-asked_refused (end.Refused r) n c = c
+asked_refused (Ok v) n c = absurd c
+asked_refused (Err r) n c = c
 
 module _ (f : Exports) (right : MeetsExports f) where
   pub exports_refuse : ExportsRefuse f

@@ -1,5 +1,6 @@
 -- Running a whole log answers and writes what the owner's demands say.
 -- Assumes nothing.
+use Rattle.std.proofs.Common.{Ok}
 use mathlib.Core.Path.{◌≡◌, refl, sym, ap, ◌∙◌, subst}
 use mathlib.Core.Bool.{Bool, not, cond}
 use mathlib.Core.List.{List, [], ◌∷◌, ◌++◌, map}
@@ -11,8 +12,7 @@ use borrow.Author.Tests.{eq-eqb, ne_eqb}
 use Rattle.meaning.specs.Rule.{time_at, Climbs}
 use Rattle.meaning.specs.Meaning.{value_of}
 use Rattle.watcher.specs.declared.state.Word.{Word}
-use Rattle.watcher.specs.declared.state.Answer.{Answer}
-use Rattle.watcher.specs.declared.state.Found.TheVariants.{Fine}
+use Rattle.watcher.specs.Answers.{Answer}
 use Rattle.watcher.specs.Records.{time_of}
 use Rattle.watcher.specs.Calls.{start_of, close_of}
 use Rattle.watcher.specs.Machine.{MachineBytes, MachineWords}
@@ -87,7 +87,7 @@ module _ (rule signals log ws codes : List ℕ) (br : MachineBytes rule) (bs : M
             ∙ (λ i. (r.2 i, s.1 i, codes));
       }
 
-  module _ (fine : (start_of rule signals ws).0.found ≡ Fine) where
+  module _ (fine : (start_of rule signals ws).0.found ≡ Ok tt) where
     begun : Begun defined rule signals ws
     unfolding defined
     begun = record { rule_bytes = br; signal_bytes = bs; words = bw; fine = fine }

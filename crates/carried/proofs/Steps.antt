@@ -1,13 +1,13 @@
 -- One call of an export on a written state: its code is that of the watcher's answer, and the next state is written.
 -- Assumes nothing.
+use Rattle.std.proofs.Common.{Ok, Err}
 use mathlib.Core.Path.{◌≡◌, refl, sym, ap, ◌∙◌, subst}
 use mathlib.Core.List.{List}
 use Prim.Native.Nat.{ℕ}
 use lib.ListN.{length}
 use Rattle.ground.proofs.Tabs.{length_tab}
 use Rattle.watcher.specs.declared.state.Watcher.{Watcher}
-use Rattle.watcher.specs.declared.state.Found.{Found}
-use Rattle.watcher.specs.declared.state.Found.TheVariants.{Fine, Refused}
+use Rattle.watcher.specs.Answers.{Found}
 use Rattle.watcher.specs.Calls.{start_of, feed_refusal, feed_with, feed_of, ask_of, close_refusal, close_with, close_of}
 use Rattle.watcher.specs.Calls.{wait_of}
 use Rattle.watcher.specs.Machine.{MachineState}
@@ -42,14 +42,14 @@ start_step rule signals bytes ws long =
 fed_written : (f : Found) (w : Watcher) (piece ws : List ℕ)
     → (fed_bytes (feed_with f w piece ws) (written w)).1 ≡ written (feed_with f w piece ws).0.next
 unfolding feed_with fed_bytes told_of told_bytes kept_unless
-fed_written Fine w piece ws = refl
-fed_written (Refused r) w piece ws = refl
+fed_written (Ok tt) w piece ws = refl
+fed_written (Err r) w piece ws = refl
 
 closed_written : (f : Found) (w : Watcher) (ws : List ℕ)
     → (ended_bytes (close_with f w ws) (written w)).1 ≡ written (close_with f w ws).0.next
 unfolding close_with ended_bytes told_at told_bytes kept_unless
-closed_written Fine w ws = refl
-closed_written (Refused r) w ws = refl
+closed_written (Ok tt) w ws = refl
+closed_written (Err r) w ws = refl
 
 module _ (w : Watcher) (m : MachineState w) (ws : List ℕ) where
   pub refuse_step : (piece : List ℕ) → refusal_bytes (written w) piece ws ≡ found_code (feed_refusal w piece ws)

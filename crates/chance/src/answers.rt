@@ -1,4 +1,3 @@
-// One log through the watcher, with a letter for each answer, and lines on standard output.
+// One log through the watcher, with a letter for each answer.
 pub(crate) mod letters;
-pub(crate) mod print;
 pub(crate) mod watch;

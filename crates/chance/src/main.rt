@@ -4,18 +4,22 @@
 mod answers;
 mod cases;
 mod judge;
-mod made;
 mod random;
 mod tally;
 
-use crate::cases::compare::random_cases;
-use crate::tally::{PLACES, tally_lines};
+use crate::cases::compare::Comparison;
+use crate::tally::Tally;
 use std::io;
 use watcher::state::Watcher;
 
 fn main(rt: HostRuntime) -> io::Result<()> {
     let mut area = [0u64; Watcher::WORDS];
-    let mut tally = [0u64; PLACES];
-    random_cases(&rt, 5000, &mut area, &mut tally)?;
-    tally_lines(&rt, &tally)
+    let mut comparison = Comparison {
+        rt: &rt,
+        area: &mut area,
+        tally: Tally::default(),
+    };
+    comparison.random_cases(5000)?;
+    let tally = comparison.tally;
+    print!(rt; "{tally}")
 }

@@ -1,5 +1,6 @@
 -- A row of the table that passes by the definitions is what start, feed and close answer over bytes.
 -- Assumes nothing.
+use Rattle.std.proofs.Common.{Ok, Err, is_err}
 use mathlib.Core.Path.{◌≡◌, refl, sym, ap, ap₂, ◌∙◌, subst}
 use mathlib.Core.Bool.{Bool, true, not, ◌&&◌, cond, and-eq-true_iff, false≢true}
 use mathlib.Core.List.{List, [], ◌∷◌, ◌++◌, map, append_assoc, append-nil}
@@ -12,15 +13,13 @@ use Rattle.meaning.specs.Rule.{Entry}
 use Rattle.meaning.specs.Meaning.{value_of}
 use Rattle.meaning.specs.Horizon.{Horizon, within, never}
 use Rattle.meaning.specs.Words.{first, fed, after, Word, kept, broken, pending, word, word_of}
-use Rattle.watcher.specs.declared.state.Found.{Found}
-use Rattle.watcher.specs.declared.state.Found.TheVariants.{Fine, Refused}
+use Rattle.watcher.specs.Answers.{Found}
 use Rattle.watcher.specs.declared.state.Refusal.{Refusal}
 use Rattle.watcher.specs.Limits.{area_words}
 use Rattle.watcher.specs.Numbers.{refusal_number}
 use Rattle.watcher.specs.Rules.{records_of}
 use Rattle.watcher.specs.Records.{entry_of}
 use Rattle.watcher.specs.Lists.{lists_refusal}
-use Rattle.watcher.specs.State.{is_refused}
 use Rattle.watcher.specs.Calls.{start_refusal, start_of, start_with, wait_of}
 use Rattle.watcher.proofs.Decoded.{Accepted}
 use Rattle.watcher.proofs.Numbers.{verdict_says}
@@ -86,17 +85,16 @@ behind_one (x ∷ vs) [] v w e =
 behind_one (x ∷ vs) (y ∷ ws) v w e = ap₂ ◌∷◌ (cc) (behind_one vs ws v w (cc))
 
 -- lists that pass
-fine_one : (f : Found) → not (is_refused f) ≡ true → f ≡ Fine
-unfolding is_refused
-fine_one Fine e = refl
-fine_one (Refused r) e = absurd (false≢true e)
+fine_one : (f : Found) → not (is_err f) ≡ true → f ≡ Ok tt
+fine_one (Ok tt) e = refl
+fine_one (Err r) e = absurd (false≢true e)
 
-refused_one : (n : ℕ) (f : Found) → refused_with n f ≡ true → (r : Refusal) × (f ≡ Refused r) × (refusal_number r ≡ n)
-refused_one n Fine e = absurd (false≢true e)
-refused_one n (Refused r) e = (r, refl, eqb-true (refusal_number r) n e)
+refused_one : (n : ℕ) (f : Found) → refused_with n f ≡ true → (r : Refusal) × (f ≡ Err r) × (refusal_number r ≡ n)
+refused_one n (Ok tt) e = absurd (false≢true e)
+refused_one n (Err r) e = (r, refl, eqb-true (refusal_number r) n e)
 
-starts_fine : (rule signals ws : List ℕ) → not (is_refused (lists_refusal rule signals)) ≡ true → length ws ≡ area_words
-    → start_refusal rule signals ws ≡ Fine
+starts_fine : (rule signals ws : List ℕ) → not (is_err (lists_refusal rule signals)) ≡ true → length ws ≡ area_words
+    → start_refusal rule signals ws ≡ Ok tt
 starts_fine rule signals ws e l = start_accepts rule signals ws (fine_one (lists_refusal rule signals) e) l
 
 module _ (rule signals : List ℕ) where
@@ -187,13 +185,13 @@ module _ (rule signals : List ℕ) where
             (ends_with fine (seen signals log) logged closing parts.3 (some log parts.2));
       }
     where
-      parts : (not (is_refused (lists_refusal rule signals)) ≡ true) × (all_taken signals [] log ≡ true)
+      parts : (not (is_err (lists_refusal rule signals)) ≡ true) × (all_taken signals [] log ≡ true)
           × (same_words (words_of (parameters_in rule) (read_rule rule) (seen signals log)) (words ++ (closing ∷ []))
           ≡ true)
           × (eqb (word_number (word_of (value_of (seen signals log) (read_rule rule)))) (word_number closing) ≡ true)
       parts = all_four _ _ _ _ e
 
-      begun : start_refusal rule signals ws ≡ Fine
+      begun : start_refusal rule signals ws ≡ Ok tt
       begun = starts_fine rule signals ws parts.0 l
 
       fine : Accepted rule signals
@@ -238,7 +236,7 @@ answered (winds limit unit meets fails) e =
           all more b.1 ws l,
         )
 answered (accepted rule n) e =
-    let b = both (not (is_refused (lists_refusal rule vents))) _ e in (
+    let b = both (not (is_err (lists_refusal rule vents))) _ e in (
       eqb-true (parameters_in rule) n b.1,
       λ ws l. start_found rule vents ws ∙ starts_fine rule vents ws b.0 l,
     )
@@ -250,7 +248,7 @@ answered (refused rule number) e =
 answered (reads signal bytes w) e = run_right rule_signal signal (bytes ∷ []) (pending ∷ []) w e
 answered (waits rule h) e =
     λ ws l.
-    let b = both (not (is_refused (lists_refusal rule vents))) _ e in
+    let b = both (not (is_err (lists_refusal rule vents))) _ e in
     let begun = starts_fine rule vents ws b.0 l in (
       start_found rule vents ws ∙ begun,
       ap wait_of (start_next rule vents ws begun)

@@ -1,6 +1,7 @@
 -- No functions of which the demands hold, and for asking what is promised of it, are one of the bad watchers: examples
 -- 2, 3 and 4 show it.
 -- Assumes nothing.
+use Rattle.std.proofs.Common.{Ok}
 use mathlib.Core.Path.{◌≡◌, refl, sym, ap, ◌∙◌, subst}
 use mathlib.Core.Bool.{Bool, true, false, not}
 use mathlib.Core.List.{List, [], ◌∷◌}
@@ -10,11 +11,8 @@ use lib.ListN.{get_or}
 use Rattle.meaning.specs.Meaning.{value_of}
 use Rattle.meaning.specs.Words.{kept, pending, broken, word_of}
 use Rattle.watcher.specs.declared.state.Word.TheVariants as word
-use Rattle.watcher.specs.declared.state.Found.{Found}
-use Rattle.watcher.specs.declared.state.Found.TheVariants.{Fine}
+use Rattle.watcher.specs.Answers.{Found, End}
 use Rattle.watcher.specs.declared.state.Started.{Started}
-use Rattle.watcher.specs.declared.state.End.{End}
-use Rattle.watcher.specs.declared.state.End.TheVariants.{Closed}
 use Rattle.watcher.specs.Rules.{records_of}
 use Rattle.watcher.specs.Records.{entry_of}
 use Rattle.watcher.specs.Numbers.{saying, verdict_for, Says, found_at, decided}
@@ -39,7 +37,7 @@ use Rattle.demands.proofs.ExampleTwo.{value_second, second_run, third_run, cours
 use Rattle.demands.proofs.ExampleTwo.{tells_two, tells_closed}
 
 -- what carries a number is no acceptance
-carries_not : (f : Found) (n : ℕ) → f ≡ Fine → Carries f n → ⊥
+carries_not : (f : Found) (n : ℕ) → f ≡ Ok tt → Carries f n → ⊥
 unfolding Carries
 carries_not f n e c = subst (λ x. Carries x n) e c
 
@@ -71,7 +69,7 @@ unfolding MachineCalls MachineCall
 called_closed = (one_bytes, (tt, tt))
 
 module _ (f : Functions) (d : Demands f) where
-  start_fine : (x : ℕ) → x < 2 → (f.start rule vents (area x)).0.found ≡ Fine
+  start_fine : (x : ℕ) → x < 2 → (f.start rule vents (area x)).0.found ≡ Ok tt
   start_fine x h =
       (d.first.start rule vents (area x) rule_bytes signal_bytes (area_words_lem x (small x h))).fine.1 (none_holds x)
 
@@ -134,8 +132,8 @@ module _ (f : Functions) (d : Demands f) where
       (course_second two broken broken (second_run 0)))
 
   -- one that asks by the word alone: example 4 is pending and broken if it ends, example 3 pending and kept
-  asked_not : (a : End) (v b : Bool) → word_of v ≡ word_of (not b) → a ≡ Closed (verdict_for v)
-      → a ≡ Closed (verdict_for b)
+  asked_not : (a : End) (v b : Bool) → word_of v ≡ word_of (not b) → a ≡ Ok (verdict_for v)
+      → a ≡ Ok (verdict_for b)
       → ⊥
   unfolding word_of verdict_for
   asked_not a true true w e g = let z : ◌≡◌ {A = ℕ} 0 1 = cc in omega arith
@@ -170,7 +168,7 @@ module _ (f : Functions) (d : Demands f) where
       let z : ◌≡◌ {A = ℕ} 1 0 = sym (area_first 1) ∙ ap (λ (ws : List ℕ). get_or ws 0 0) same ∙ area_first 0 in
       omega arith
     where
-      begins : (x : ℕ) → x < 2 → area x ≡ (start_with Fine rule vents []).1
+      begins : (x : ℕ) → x < 2 → area x ≡ (start_with (Ok tt) rule vents []).1
       begins x h =
           sym (never rule vents (area x) rule_bytes signal_bytes (area_words_lem x (small x h)))
           ∙ ap (λ (o : Started × List ℕ). o.1)

@@ -1,5 +1,6 @@
 -- Each call brings state and area from what the rewriting gives for a log to what it gives for the log with the call.
 -- Assumes nothing.
+use Rattle.std.proofs.Common.{Ok, Err}
 use mathlib.Core.Path.{◌≡◌, refl, sym, ap, ap₂, ◌∙◌, subst}
 use mathlib.Core.Bool.{Bool, true, false, cond}
 use mathlib.Core.List.{List, [], ◌∷◌}
@@ -15,9 +16,6 @@ use Rattle.meaning.specs.Words as words
 use Rattle.rewriting.specs.Known.{area_of}
 use Rattle.watcher.specs.declared.state.Refusal.{Refusal}
 use Rattle.watcher.specs.declared.state.Refusal.TheVariants.{LogRecord, LogTime, NothingFed, AlreadyClosed}
-use Rattle.watcher.specs.declared.state.Found.TheVariants.{Fine, Refused}
-use Rattle.watcher.specs.declared.state.Answer.TheVariants as answer
-use Rattle.watcher.specs.declared.state.End.TheVariants as end
 use Rattle.watcher.specs.declared.state.Fed.{Fed}
 use Rattle.watcher.specs.declared.state.Ended.{Ended}
 use Rattle.watcher.specs.Limits.{most_parameters}
@@ -44,8 +42,8 @@ use Rattle.demands.proofs.Logs.{after_lawful}
 use Rattle.demands.proofs.Values.{close_constant, value_closing}
 
 -- a refused record, and a refused closing, leave everything as it is
-pub feed_stays : (h : Held) (bytes : List ℕ) (r : Refusal) → feed_refusal h.state bytes h.area ≡ Refused r
-    → (told defined h bytes ≡ answer.Refused r) × (handed defined h (feeding bytes) ≡ h)
+pub feed_stays : (h : Held) (bytes : List ℕ) (r : Refusal) → feed_refusal h.state bytes h.area ≡ Err r
+    → (told defined h bytes ≡ Err r) × (handed defined h (feeding bytes) ≡ h)
 unfolding defined handed
 feed_stays h bytes r e =
     let o = refused_feed h.state bytes h.area r e in (
@@ -53,8 +51,8 @@ feed_stays h bytes r e =
       ap (λ (x : Fed × List ℕ). record { state = x.0.next; area = x.1 }) o,
     )
 
-pub close_stays : (h : Held) (r : Refusal) → close_refusal h.state h.area ≡ Refused r
-    → (ending defined h ≡ end.Refused r) × (handed defined h closing ≡ h)
+pub close_stays : (h : Held) (r : Refusal) → close_refusal h.state h.area ≡ Err r
+    → (ending defined h ≡ Err r) × (handed defined h closing ≡ h)
 unfolding defined handed
 close_stays h r e =
     let o = refused_close h.state h.area r e in (
@@ -79,13 +77,13 @@ pub record Ready (h : Held) (last : ℕ) : Type 0 where
 
 module _ (h : Held) (last : ℕ) (ready : Ready h last) (bytes : List ℕ) where
   pub wrong_stays : wrong_record bytes ≡ true
-      → (told defined h bytes ≡ answer.Refused LogRecord) × (handed defined h (feeding bytes) ≡ h)
+      → (told defined h bytes ≡ Err LogRecord) × (handed defined h (feeding bytes) ≡ h)
   wrong_stays w =
       feed_stays h bytes LogRecord
       (feed_wrong h.state h.area ready.sound.0 ready.sound.1 ready.live bytes w)
 
   pub early_stays : wrong_record bytes ≡ false → time_of bytes < last
-      → (told defined h bytes ≡ answer.Refused LogTime) × (handed defined h (feeding bytes) ≡ h)
+      → (told defined h bytes ≡ Err LogTime) × (handed defined h (feeding bytes) ≡ h)
   early_stays w l =
       feed_stays h bytes LogTime
       (feed_early h.state h.area ready.sound.0 ready.sound.1 ready.live bytes w
@@ -144,7 +142,7 @@ module _ (rule signals : List ℕ) (fine : Accepted rule signals) where
       (subst (λ t. t ≤ time_of bytes) (sym (last_known m (read_rule rule) e es)) h)))
 
   -- closing with no accepted record, and after accepted ones
-  pub close_none : (ending defined (held_after rule signals []) ≡ end.Refused NothingFed)
+  pub close_none : (ending defined (held_after rule signals []) ≡ Err NothingFed)
       × (handed defined (held_after rule signals []) closing ≡ held_after rule signals [])
   unfolding held_after fresh_state stage_of is_fresh
   close_none =
@@ -155,7 +153,7 @@ module _ (rule signals : List ℕ) (fine : Accepted rule signals) where
 
   pub close_some : (e : Entry) (es : List Entry) → Right signals (e ∷ es)
       → (ending defined (held_after rule signals (e ∷ es))
-      ≡ end.Closed (verdict_for (value_of (e ∷ es) (read_rule rule))))
+      ≡ Ok (verdict_for (value_of (e ∷ es) (read_rule rule))))
       × (handed defined (held_after rule signals (e ∷ es)) closing ≡ held_closed rule signals e es)
   unfolding held_after held_closed defined handed
   close_some e es r =
@@ -164,7 +162,7 @@ module _ (rule signals : List ℕ) (fine : Accepted rule signals) where
       let o = close_known rule signals fine s (after_lawful rule signals e es r.below) in
       let v = value_closing rule signals fine e es (right_rising signals (e ∷ es) r) in
       let f = close_constant rule signals fine e es (right_rising signals (e ∷ es) r) in (
-        o.says ∙ ap (λ b. end.Closed (verdict_for b)) v,
+        o.says ∙ ap (λ b. Ok (verdict_for b)) v,
         ap₂ (λ w ws. record { state = w; area = ws })
             (o.next ∙ ap (closed_state (fresh_state rule signals)) v)
             (o.area ∙ ap (area_of most_parameters m s.past) f),
@@ -184,8 +182,8 @@ module _ (rule signals : List ℕ) (fine : Accepted rule signals) where
 
   pub closed_stays : (e : Entry) (es : List Entry) → Right signals (e ∷ es) → (bytes : List ℕ)
       → let h : Held = held_closed rule signals e es in
-      ((told defined h bytes ≡ answer.Refused AlreadyClosed) × (handed defined h (feeding bytes) ≡ h))
-      × ((ending defined h ≡ end.Refused AlreadyClosed) × (handed defined h closing ≡ h))
+      ((told defined h bytes ≡ Err AlreadyClosed) × (handed defined h (feeding bytes) ≡ h))
+      × ((ending defined h ≡ Err AlreadyClosed) × (handed defined h closing ≡ h))
   unfolding held_closed closed_state stage_of is_closed
   closed_stays e es r bytes =
       let h : Held = held_closed rule signals e es in
@@ -240,13 +238,13 @@ module _ (rule signals : List ℕ) (fine : Accepted rule signals) where
   sound_in (over e es) r = closed_sound e es r
 
 -- after an accepted start
-pub start_next : (rule signals ws : List ℕ) → start_refusal rule signals ws ≡ Fine
+pub start_next : (rule signals ws : List ℕ) → start_refusal rule signals ws ≡ Ok tt
     → (start_of rule signals ws).0.next ≡ (held_in rule signals (going [])).state
 unfolding start_of start_with held_in held_after
 start_next rule signals ws e = ap (λ f. (start_with f rule signals ws).0.next) e
 
 -- after start and any calls: what the rewriting gives for the accepted records
-pub run_state : (rule signals ws : List ℕ) → start_refusal rule signals ws ≡ Fine → (calls : List Call)
+pub run_state : (rule signals ws : List ℕ) → start_refusal rule signals ws ≡ Ok tt → (calls : List Call)
     → reached defined rule signals ws calls ≡ held_in rule signals (course_of signals calls)
 unfolding reached defined start_of start_with held_in held_after parameters_in read_rule log_in
 run_state rule signals ws e calls =

@@ -1,5 +1,6 @@
 -- What the answers of a run tell of its log: a word that is told is the log's, and a decided one stays.
 -- Assumes nothing.
+use Rattle.std.proofs.Common.{Ok}
 use mathlib.Core.Path.{◌≡◌, refl, sym, ap, ◌∙◌, subst}
 use mathlib.Core.Bool.{Bool, true, false, cond}
 use mathlib.Core.List.{List, [], ◌∷◌, ◌++◌, append_assoc}
@@ -12,7 +13,6 @@ use Rattle.meaning.specs.Horizon.{within, horizon}
 use Rattle.meaning.specs.Words as words
 use Rattle.meaning.specs.Words.{word_of}
 use Rattle.watcher.specs.declared.state.Word.{Word}
-use Rattle.watcher.specs.declared.state.End.TheVariants as end
 use Rattle.watcher.specs.Rules.{records_of}
 use Rattle.watcher.specs.Records.{time_of, entry_of}
 use Rattle.watcher.specs.Numbers.{saying, verdict_for, Says, decided}
@@ -111,7 +111,7 @@ module _ (rule signals : List ℕ) (fine : Accepted rule signals) where
 
   -- closing a log that is not empty reports its value
   closes : (log : List Entry) → Right signals log → 0 < length log
-      → ending defined (held_after rule signals log) ≡ end.Closed (verdict_for (value_of log (read_rule rule)))
+      → ending defined (held_after rule signals log) ≡ Ok (verdict_for (value_of log (read_rule rule)))
   closes [] r h = let z : ⊥ = omega arith in absurd z
   closes (e ∷ es) r h = (close_some rule signals fine e es r).0
 
@@ -170,7 +170,7 @@ module _ (rule signals : List ℕ) (fine : Accepted rule signals) where
 
         -- and closing agrees
         pub told_agrees : (all : List Entry) → course_of signals (calls ++ (feeding bytes ∷ more)) ≡ going all
-            → ending defined (held_after rule signals all) ≡ end.Closed (verdict_for b)
+            → ending defined (held_after rule signals all) ≡ Ok (verdict_for b)
         unfolding log_in
         told_agrees all c =
             let r : Right signals all
@@ -178,8 +178,8 @@ module _ (rule signals : List ℕ) (fine : Accepted rule signals) where
             let same : all ≡ log ++ later_log.0 = sym (ap log_in c) ∙ later_log.1 in
             let some = some_with signals t.log bytes in
             closes all r (subst (λ x. 0 < length x) (sym same) (some_more log later_log.0 some))
-            ∙ ap (λ x. end.Closed (verdict_for (value_of x (read_rule rule)))) same
-            ∙ ap (λ v. end.Closed (verdict_for v))
+            ∙ ap (λ x. Ok (verdict_for (value_of x (read_rule rule)))) same
+            ∙ ap (λ v. Ok (verdict_for v))
             (log_holds rule signals fine log some b log_word later_log.0
             (subst Rising same (right_rising signals all r)))
 

@@ -1,12 +1,12 @@
 -- The owner's three demands hold of any functions that meet the clauses of start, feed, ask and close.
 -- Assumes nothing.
+use Rattle.std.proofs.Common.{Ok, Err}
 use mathlib.Core.Path.{◌≡◌, refl, sym, ap, ◌∙◌, subst}
 use mathlib.Core.List.{List, [], ◌∷◌, ◌++◌}
 use Prim.Native.Nat.{ℕ}
 use Rattle.meaning.specs.Rule.{Entry}
 use Rattle.watcher.specs.declared.state.Watcher.{Watcher}
-use Rattle.watcher.specs.declared.state.Found.{Found}
-use Rattle.watcher.specs.declared.state.Found.TheVariants.{Fine, Refused}
+use Rattle.watcher.specs.Answers.{Found}
 use Rattle.watcher.specs.declared.state.Started.{Started}
 use Rattle.watcher.specs.declared.state.Fed.{Fed}
 use Rattle.watcher.specs.declared.state.Ended.{Ended}
@@ -54,16 +54,16 @@ unfolding feed_of feed_with found_in
 feed_found w bytes ws = go (feed_refusal w bytes ws)
   where
     go : (f : Found) → found_in (feed_with f w bytes ws).0.answer ≡ f
-    go Fine = refl
-    go (Refused r) = refl
+    go (Ok tt) = refl
+    go (Err r) = refl
 
 close_found : (w : Watcher) (ws : List ℕ) → found_at (close_of w ws).0.answer ≡ close_refusal w ws
 unfolding close_of close_with found_at
 close_found w ws = go (close_refusal w ws)
   where
     go : (f : Found) → found_at (close_with f w ws).0.answer ≡ f
-    go Fine = refl
-    go (Refused r) = refl
+    go (Ok tt) = refl
+    go (Err r) = refl
 
 start_leaves : (rule signals ws : List ℕ) (n : ℕ) → Carries (start_of rule signals ws).0.found n
     → ((start_of rule signals ws).0.next ≡ zero_state) × ((start_of rule signals ws).1 ≡ ws)
@@ -72,8 +72,8 @@ start_leaves rule signals ws n c = go (start_refusal rule signals ws) c
   where
     go : (f : Found) → Carries (start_with f rule signals ws).0.found n
         → ((start_with f rule signals ws).0.next ≡ zero_state) × ((start_with f rule signals ws).1 ≡ ws)
-    go Fine c = absurd c
-    go (Refused r) c = (refl, refl)
+    go (Ok tt) c = absurd c
+    go (Err r) c = (refl, refl)
 
 feed_leaves : (w : Watcher) (bytes ws : List ℕ) (n : ℕ) → Carries (found_in (feed_of w bytes ws).0.answer) n
     → ((feed_of w bytes ws).0.next ≡ w) × ((feed_of w bytes ws).1 ≡ ws)
@@ -82,8 +82,8 @@ feed_leaves w bytes ws n c = go (feed_refusal w bytes ws) c
   where
     go : (f : Found) → Carries (found_in (feed_with f w bytes ws).0.answer) n
         → ((feed_with f w bytes ws).0.next ≡ w) × ((feed_with f w bytes ws).1 ≡ ws)
-    go Fine c = absurd c
-    go (Refused r) c = (refl, refl)
+    go (Ok tt) c = absurd c
+    go (Err r) c = (refl, refl)
 
 close_leaves : (w : Watcher) (ws : List ℕ) (n : ℕ) → Carries (found_at (close_of w ws).0.answer) n
     → ((close_of w ws).0.next ≡ w) × ((close_of w ws).1 ≡ ws)
@@ -92,8 +92,8 @@ close_leaves w ws n c = go (close_refusal w ws) c
   where
     go : (f : Found) → Carries (found_at (close_with f w ws).0.answer) n
         → ((close_with f w ws).0.next ≡ w) × ((close_with f w ws).1 ≡ ws)
-    go Fine c = absurd c
-    go (Refused r) c = (refl, refl)
+    go (Ok tt) c = absurd c
+    go (Err r) c = (refl, refl)
 
 -- calls with a record and more behind them
 pub machine_more : (calls : List Call) (bytes : List ℕ) (more : List Call) → MachineCalls calls → MachineBytes bytes

@@ -1,6 +1,7 @@
 -- Examples 2, 3 and 4 as runs: their records are accepted, and what the rewriting gives for them. The first record is
 -- the same in all, and alone it is example 4.
 -- Assumes nothing.
+use Rattle.std.proofs.Common.{Ok}
 use mathlib.Core.Path.{◌≡◌, refl, sym, ap, ◌∙◌, subst}
 use mathlib.Core.Bool.{Bool, true, and-eq-true_iff}
 use mathlib.Core.Logic.{⊎_elim}
@@ -24,7 +25,6 @@ use Rattle.watcher.specs.Limits.{most_parameters, area_words}
 use Rattle.watcher.specs.Rules.{records_of}
 use Rattle.watcher.specs.Records.{entry_of}
 use Rattle.watcher.specs.Numbers.{saying, Says}
-use Rattle.watcher.specs.declared.state.Found.TheVariants.{Fine}
 use Rattle.watcher.specs.Calls.{start_refusal}
 use Rattle.watcher.specs.Machine.{MachineBytes, MachineWords}
 use Rattle.watcher.proofs.Decoded.{Accepted}
@@ -114,7 +114,7 @@ pub none_holds : (x : ℕ) → NoneHolds (start_table rule vents (area x))
 none_holds x =
     (start_tabled rule vents (area x)).fine.0 (sym (start_found rule vents (area x)) ∙ (second_run x).starts)
 
-start : start_refusal rule vents (area 0) ≡ Fine
+start : start_refusal rule vents (area 0) ≡ Ok tt
 start = sym (start_found rule vents (area 0)) ∙ (second_run 0).starts
 
 fine : Accepted rule vents

@@ -1,5 +1,6 @@
 -- What feeding and closing do to a state and an area that the watcher made.
 -- Assumes nothing.
+use Rattle.std.proofs.Common.{Ok, Err}
 use mathlib.Core.Path.{◌≡◌, refl, sym, ap, ◌∙◌, subst}
 use mathlib.Core.Bool.{Bool, true, false}
 use mathlib.Core.List.{List, []}
@@ -15,9 +16,6 @@ use Rattle.watcher.specs.declared.state.Phase.{Phase}
 use Rattle.watcher.specs.declared.state.Phase.TheVariants as phase
 use Rattle.watcher.specs.declared.state.Refusal.{Refusal}
 use Rattle.watcher.specs.declared.state.Refusal.TheVariants.{LogRecord, LogTime, AlreadyClosed, NothingFed}
-use Rattle.watcher.specs.declared.state.Found.TheVariants.{Fine, Refused}
-use Rattle.watcher.specs.declared.state.Answer.TheVariants as answer
-use Rattle.watcher.specs.declared.state.End.TheVariants as end
 use Rattle.watcher.specs.declared.state.Fed.{Fed}
 use Rattle.watcher.specs.declared.state.Ended.{Ended}
 use Rattle.watcher.specs.Limits.{most_parameters}
@@ -41,41 +39,41 @@ use Rattle.demands.proofs.OwnStates.{running_fine}
 -- a state that is not broken, with an area of the right length
 module _ (w : Watcher) (ws : List ℕ) (area : wrong_area ws ≡ false) (sound : broken_state w ws ≡ false) where
   pub closed_refuses : (bytes : List ℕ) → is_closed (stage_of w.phase) ≡ true
-      → (feed_refusal w bytes ws ≡ Refused AlreadyClosed) × (close_refusal w ws ≡ Refused AlreadyClosed)
+      → (feed_refusal w bytes ws ≡ Err AlreadyClosed) × (close_refusal w ws ≡ Err AlreadyClosed)
   unfolding feed_refusal close_refusal state_tests first_refusal
   closed_refuses bytes e = (rw (area, sound, e), rw (area, sound, e))
 
   module _ (live : is_closed (stage_of w.phase) ≡ false) where
-    pub feed_wrong : (bytes : List ℕ) → wrong_record bytes ≡ true → feed_refusal w bytes ws ≡ Refused LogRecord
+    pub feed_wrong : (bytes : List ℕ) → wrong_record bytes ≡ true → feed_refusal w bytes ws ≡ Err LogRecord
     unfolding feed_refusal state_tests first_refusal
     feed_wrong bytes e = rw (area, sound, live, e)
 
     pub feed_early : (bytes : List ℕ) → wrong_record bytes ≡ false
-        → too_early (stage_of w.phase) (time_of bytes) ≡ true → feed_refusal w bytes ws ≡ Refused LogTime
+        → too_early (stage_of w.phase) (time_of bytes) ≡ true → feed_refusal w bytes ws ≡ Err LogTime
     unfolding feed_refusal state_tests first_refusal
     feed_early bytes e h = rw (area, sound, live, e, h)
 
     pub feed_accepts : (bytes : List ℕ) → wrong_record bytes ≡ false
-        → too_early (stage_of w.phase) (time_of bytes) ≡ false → feed_refusal w bytes ws ≡ Fine
+        → too_early (stage_of w.phase) (time_of bytes) ≡ false → feed_refusal w bytes ws ≡ Ok tt
     unfolding feed_refusal state_tests first_refusal
     feed_accepts bytes e h = rw (area, sound, live, e, h)
 
-    pub close_nothing : is_fresh (stage_of w.phase) ≡ true → close_refusal w ws ≡ Refused NothingFed
+    pub close_nothing : is_fresh (stage_of w.phase) ≡ true → close_refusal w ws ≡ Err NothingFed
     unfolding close_refusal state_tests first_refusal
     close_nothing e = rw (area, sound, live, e)
 
-    pub close_accepts : is_fresh (stage_of w.phase) ≡ false → close_refusal w ws ≡ Fine
+    pub close_accepts : is_fresh (stage_of w.phase) ≡ false → close_refusal w ws ≡ Ok tt
     unfolding close_refusal state_tests first_refusal
     close_accepts e = rw (area, sound, live, e)
 
 -- a refused record, a refused closing
-pub refused_feed : (w : Watcher) (bytes ws : List ℕ) (r : Refusal) → feed_refusal w bytes ws ≡ Refused r
-    → feed_of w bytes ws ≡ (record { answer = answer.Refused r; next = w }, ws)
+pub refused_feed : (w : Watcher) (bytes ws : List ℕ) (r : Refusal) → feed_refusal w bytes ws ≡ Err r
+    → feed_of w bytes ws ≡ (record { answer = Err r; next = w }, ws)
 unfolding feed_of feed_with
 refused_feed w bytes ws r e = ap (λ f. feed_with f w bytes ws) e
 
-pub refused_close : (w : Watcher) (ws : List ℕ) (r : Refusal) → close_refusal w ws ≡ Refused r
-    → close_of w ws ≡ (record { answer = end.Refused r; next = w }, ws)
+pub refused_close : (w : Watcher) (ws : List ℕ) (r : Refusal) → close_refusal w ws ≡ Err r
+    → close_of w ws ≡ (record { answer = Err r; next = w }, ws)
 unfolding close_of close_with
 refused_close w ws r e = ap (λ f. close_with f w ws) e
 
@@ -89,7 +87,7 @@ unfoldable fed_by : List Node → Watcher → Entry → List ℕ → Stage → F
 fed_by rule w e ws stage =
     let m : ℕ = parameters rule in
     let s : Known m = known_next m rule ws e stage in (
-      record { answer = answer.Accepted (report_of m s); next = running_state w e },
+      record { answer = Ok (report_of m s); next = running_state w e },
       area_of most_parameters m s.past s.remainder,
     )
 
@@ -99,7 +97,7 @@ closed_by rule w ws stage =
     let s : Known m = known_now m ws stage in
     let b : Bool = value_if_last m rule s in
     let f : Form m = close m rule s in
-    (record { answer = end.Closed (verdict_for b); next = closed_state w b }, area_of most_parameters m s.past f)
+    (record { answer = Ok (verdict_for b); next = closed_state w b }, area_of most_parameters m s.past f)
 
 -- the outcome of a record after which so much is known
 pub record FedInto (rule signals : List ℕ) (s : Known (parameters_in rule)) (o : Fed × List ℕ) : Type 0 where
@@ -109,13 +107,13 @@ pub record FedInto (rule signals : List ℕ) (s : Known (parameters_in rule)) (o
 
 -- the outcome of closing where so much is known
 pub record ClosedInto (rule signals : List ℕ) (s : Known (parameters_in rule)) (o : Ended × List ℕ) : Type 0 where
-  pub says : o.0.answer ≡ end.Closed (verdict_for (value_if_last (parameters_in rule) (read_rule rule) s))
+  pub says : o.0.answer ≡ Ok (verdict_for (value_if_last (parameters_in rule) (read_rule rule) s))
   pub next : o.0.next
       ≡ closed_state (fresh_state rule signals) (value_if_last (parameters_in rule) (read_rule rule) s)
   pub area : o.1 ≡ area_of most_parameters (parameters_in rule) s.past (close (parameters_in rule) (read_rule rule) s)
 
 module _ (rule signals : List ℕ) (fine : Accepted rule signals) where
-  fed_by_lem : (p : Phase) (bytes ws : List ℕ) → feed_refusal (state_in rule signals p) bytes ws ≡ Fine
+  fed_by_lem : (p : Phase) (bytes ws : List ℕ) → feed_refusal (state_in rule signals p) bytes ws ≡ Ok tt
       → feed_of (state_in rule signals p) bytes ws
       ≡ fed_by (read_rule rule) (state_in rule signals p) (entry_of signals (records_of signals) bytes) ws (stage_of p)
   unfolding feed_of feed_with fed_by parameters_of state_in
@@ -125,7 +123,7 @@ module _ (rule signals : List ℕ) (fine : Accepted rule signals) where
       fed_by (rule_in rule signals fine p i) (state_in rule signals p)
       (entry_padded signals (list_short rule signals fine) bytes i) ws (stage_of p))
 
-  closed_by_lem : (p : Phase) (ws : List ℕ) → close_refusal (state_in rule signals p) ws ≡ Fine
+  closed_by_lem : (p : Phase) (ws : List ℕ) → close_refusal (state_in rule signals p) ws ≡ Ok tt
       → close_of (state_in rule signals p) ws ≡ closed_by (read_rule rule) (state_in rule signals p) ws (stage_of p)
   unfolding close_of close_with closed_by value_now parameters_of state_in
   closed_by_lem p ws e =

@@ -1,14 +1,13 @@
 -- Functions that meet the clauses go the way of the definitions, on everything that a machine can hand in.
 -- Assumes nothing.
+use Rattle.std.proofs.Common.{Ok, Err}
 use mathlib.Core.Path.{◌≡◌, refl, sym, ap, ◌∙◌, subst}
 use mathlib.Core.List.{List, [], ◌∷◌}
 use Prim.Native.Nat.{ℕ}
 use Rattle.watcher.specs.declared.state.Started.{Started}
 use Rattle.watcher.specs.declared.state.Fed.{Fed}
-use Rattle.watcher.specs.declared.state.End.{End}
+use Rattle.watcher.specs.Answers.{Found, End}
 use Rattle.watcher.specs.declared.state.Ended.{Ended}
-use Rattle.watcher.specs.declared.state.Found.{Found}
-use Rattle.watcher.specs.declared.state.Found.TheVariants.{Fine, Refused}
 use Rattle.watcher.specs.Machine.{MachineBytes, MachineWords, MachineState}
 use Rattle.watcher.specs.Calls.{start_refusal, start_with, start_of}
 use Rattle.watcher.specs.Runs.{Held}
@@ -40,8 +39,8 @@ unfolding start_of start_with
 start_found rule signals ws = go (start_refusal rule signals ws)
   where
     go : (f : Found) → (start_with f rule signals ws).0.found ≡ f
-    go Fine = refl
-    go (Refused r) = refl
+    go (Ok tt) = refl
+    go (Err r) = refl
 
 module _ (f : Functions) (right : Meets f) where
   one_same : (h : Held) (c : Call) → MachineHeld h → MachineCall c
@@ -80,7 +79,7 @@ module _ (f : Functions) (right : Meets f) where
     start_same : f.start rule signals ws ≡ start_of rule signals ws
     start_same = right.starts rule signals ws begun.rule_bytes begun.signal_bytes begun.words
 
-    pub start_fine : start_refusal rule signals ws ≡ Fine
+    pub start_fine : start_refusal rule signals ws ≡ Ok tt
     start_fine =
         sym (start_found rule signals ws) ∙ sym (ap (λ (o : Started × List ℕ). o.0.found) start_same) ∙ begun.fine
 

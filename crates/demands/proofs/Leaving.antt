@@ -1,5 +1,6 @@
 -- After an accepted call the scratch and the unused rows are zero.
 -- Assumes nothing.
+use Rattle.std.proofs.Common.{Ok}
 use mathlib.Core.Path.{◌≡◌, sym, ap, ◌∙◌, subst}
 use mathlib.Core.Bool.{false}
 use mathlib.Core.Logic.{⊎_elim}
@@ -21,7 +22,6 @@ use Rattle.meaning.proofs.Blocks.{length_past_rows}
 use Rattle.rewriting.specs.Known.{words_for, form_at, past_in, known_in, area_of}
 use Rattle.rewriting.proofs.Placed.{length_area_of, row_area_of, row_past, row_scratch}
 use Rattle.watcher.specs.declared.state.Watcher.{Watcher}
-use Rattle.watcher.specs.declared.state.Found.TheVariants.{Fine}
 use Rattle.watcher.specs.Limits.{most_parameters}
 use Rattle.watcher.specs.Records.{entry_of}
 use Rattle.watcher.specs.Numbers.{Stage, fresh, running, closed, stage_of}
@@ -70,7 +70,7 @@ unfolding known_now known_in past_in
 now_long m ws stage = length_tab m (form_at m ws)
 
 -- after an accepted start, an accepted record, an accepted closing
-pub start_clean : (rule signals ws : List ℕ) → start_refusal rule signals ws ≡ Fine
+pub start_clean : (rule signals ws : List ℕ) → start_refusal rule signals ws ≡ Ok tt
     → Clean (parameters_in rule) (start_of rule signals ws).1
 unfolding start_of start_with parameters_in read_rule
 start_clean rule signals ws e =
@@ -78,7 +78,8 @@ start_clean rule signals ws e =
     (clean_area (parameters_in rule) [] (words.start (parameters_in rule) (read_rule rule)) (omega arith))
 
 module _ (w : Watcher) where
-  pub feed_clean : (bytes ws : List ℕ) → feed_refusal w bytes ws ≡ Fine → Clean (parameters_of w) (feed_of w bytes ws).1
+  pub feed_clean : (bytes ws : List ℕ) → feed_refusal w bytes ws ≡ Ok tt
+      → Clean (parameters_of w) (feed_of w bytes ws).1
   unfolding feed_of feed_with parameters_of
   feed_clean bytes ws e =
       let s : Known (parameters_of w)
@@ -87,7 +88,7 @@ module _ (w : Watcher) where
       (clean_area (parameters_of w) s.past s.remainder
       (omega (arith, next_long (rule_of w) ws (entry_of w.list w.signals bytes) (stage_of w.phase))))
 
-  pub close_clean : (ws : List ℕ) → close_refusal w ws ≡ Fine → Clean (parameters_of w) (close_of w ws).1
+  pub close_clean : (ws : List ℕ) → close_refusal w ws ≡ Ok tt → Clean (parameters_of w) (close_of w ws).1
   unfolding close_of close_with
   close_clean ws e =
       let s : Known (parameters_of w) = known_now (parameters_of w) ws (stage_of w.phase) in

@@ -1,5 +1,6 @@
 -- The states that the watcher makes of accepted lists, and that refusal 12 is not given for them.
 -- Assumes nothing.
+use Rattle.std.proofs.Common.{Ok, Err, is_err}
 use mathlib.Core.Path.{◌≡◌, refl, sym, ap, ap₂, ◌∙◌}
 use mathlib.Core.Bool.{false, not, ◌||◌}
 use mathlib.Core.List.{List, []}
@@ -18,37 +19,35 @@ use Rattle.watcher.specs.declared.state.Phase.{Phase}
 use Rattle.watcher.specs.declared.state.Phase.TheVariants as phase
 use Rattle.watcher.specs.declared.state.Verdict.{Verdict}
 use Rattle.watcher.specs.declared.state.Refusal.{Refusal}
-use Rattle.watcher.specs.declared.state.Found.TheVariants.{Fine, Refused}
 use Rattle.watcher.specs.Limits.{most_records, most_signals, most_parameters, list_bytes, area_words}
 use Rattle.watcher.specs.Rules.{records_of}
 use Rattle.watcher.specs.Lists.{lists_refusal}
 use Rattle.watcher.specs.Numbers.{stage_of, verdict_value}
-use Rattle.watcher.specs.State.{rule_of, parameters_of, rule_bytes, list_bytes_of, is_refused, start_refuses}
+use Rattle.watcher.specs.State.{rule_of, parameters_of, rule_bytes, list_bytes_of, start_refuses}
 use Rattle.watcher.specs.State.{not_zeros_behind, signals_above, wrong_in_phase, broken_state}
 use Rattle.watcher.specs.Calls.{start_refusal, padded}
 use Rattle.demands.specs.Rewritten.{read_rule, parameters_in}
 use Rattle.watcher.proofs.Decoded.{Accepted, fine_tests, tests_fine, length_fine, Whole}
-use Rattle.watcher.proofs.Decoded.{accepted_list, accepted_few}
-use Rattle.watcher.proofs.Refusing.{length_most}
+use Rattle.watcher.proofs.Decoded.{length_most, accepted_list, accepted_few}
 use Rattle.watcher.proofs.Testing.{start_refused, start_fine, start_passed}
 use Rattle.watcher.proofs.Breaking.{not_broken, fresh_rows, running_rows, closed_rows}
 use Rattle.rewriting.proofs.TidyRows.{bits_fine, unused_fine}
 use Rattle.demands.proofs.Padding.{take_padded, zeros_padded, rule_padded}
 
 -- start refuses lists that do not pass, whatever the area
-pub start_refuses_lem : (rule signals ws : List ℕ) (r : Refusal) → lists_refusal rule signals ≡ Refused r
-    → start_refusal rule signals ws ≡ Refused r
-start_refuses_lem rule signals ws r e = sym (start_refused rule signals ws (Refused r) (sym e) r refl)
+pub start_refuses_lem : (rule signals ws : List ℕ) (r : Refusal) → lists_refusal rule signals ≡ Err r
+    → start_refusal rule signals ws ≡ Err r
+start_refuses_lem = start_refused
 
 -- start accepts lists that pass with an area of 1,664 words, and nothing else
-pub start_accepts : (rule signals ws : List ℕ) → lists_refusal rule signals ≡ Fine → length ws ≡ area_words
-    → start_refusal rule signals ws ≡ Fine
-start_accepts rule signals ws e l = sym (start_fine rule signals ws Fine (sym e) refl l)
+pub start_accepts : (rule signals ws : List ℕ) → lists_refusal rule signals ≡ Ok tt → length ws ≡ area_words
+    → start_refusal rule signals ws ≡ Ok tt
+start_accepts = start_fine
 
-pub start_accepted : (rule signals ws : List ℕ) → start_refusal rule signals ws ≡ Fine
+pub start_accepted : (rule signals ws : List ℕ) → start_refusal rule signals ws ≡ Ok tt
     → Accepted rule signals × (length ws ≡ area_words)
 start_accepted rule signals ws e =
-    let p = start_passed rule signals ws Fine (sym e) refl in (fine_tests rule signals p.0, p.1)
+    let p = start_passed rule signals ws (Ok tt) (sym e) refl in (fine_tests rule signals p.0, p.1)
 
 -- a state with the lists that start was given, in some phase
 unfoldable pub state_in : (rule signals : List ℕ) → Phase → Watcher
@@ -83,11 +82,11 @@ module _ (rule signals : List ℕ) (fine : Accepted rule signals) where
 
   -- start would not refuse its lists
   pub lists_in : (p : Phase) → start_refuses (state_in rule signals p) ≡ false
-  unfolding start_refuses rule_bytes list_bytes_of state_in is_refused
+  unfolding start_refuses rule_bytes list_bytes_of state_in
   lists_in p =
       ap₂ ◌||◌ (le-ltb most_records (records_of rule) r.most)
       (ap₂ ◌||◌ (le-ltb most_signals (records_of signals) l.most)
-      (ap is_refused
+      (ap is_err
       (ap₂ lists_refusal (own rule rule_short r) (own signals list_short l) ∙ tests_fine rule signals fine)))
     where
       r : Whole rule

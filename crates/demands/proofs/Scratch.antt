@@ -1,5 +1,6 @@
 -- The work area of an accepted call: what the scratch holds at entry does not count.
 -- Assumes nothing.
+use Rattle.std.proofs.Common.{Ok, Err}
 use mathlib.Core.Path.{◌≡◌, refl, sym, ap, ◌∙◌}
 use mathlib.Core.Bool.{false, not}
 use mathlib.Core.List.{List, ◌++◌}
@@ -14,10 +15,7 @@ use Rattle.meaning.specs.Words.{Known, leave, feed, close, value_if_last}
 use Rattle.rewriting.specs.Known.{form_at, known_in, area_of}
 use Rattle.rewriting.proofs.TidyRows.{form_same, known_same}
 use Rattle.watcher.specs.declared.state.Watcher.{Watcher}
-use Rattle.watcher.specs.declared.state.Found.{Found}
-use Rattle.watcher.specs.declared.state.Found.TheVariants as found
-use Rattle.watcher.specs.declared.state.Answer.TheVariants as answer
-use Rattle.watcher.specs.declared.state.End.TheVariants as end
+use Rattle.watcher.specs.Answers.{Found}
 use Rattle.watcher.specs.declared.state.Ended.{Ended}
 use Rattle.watcher.specs.Limits.{most_parameters, list_bytes, area_words}
 use Rattle.watcher.specs.Numbers.{verdict_for, Stage, fresh, running, closed, stage_of, last_in}
@@ -34,14 +32,14 @@ use Rattle.watcher.proofs.Decoded.{first_fine}
 use Rattle.watcher.proofs.Breaking.{unbroken, broken_same}
 
 -- an accepted start does not look at the area
-pub start_any : (rule signals a b : List ℕ) → start_refusal rule signals a ≡ found.Fine
-    → start_refusal rule signals b ≡ found.Fine → start_of rule signals a ≡ start_of rule signals b
+pub start_any : (rule signals a b : List ℕ) → start_refusal rule signals a ≡ Ok tt
+    → start_refusal rule signals b ≡ Ok tt → start_of rule signals a ≡ start_of rule signals b
 unfolding start_of start_with
 start_any rule signals a b e f =
     ap (λ x. start_with x rule signals a) e ∙ sym (ap (λ x. start_with x rule signals b) f)
 
 -- a state that passes the first tests holds lists that start would not refuse
-lists_sound : (w : Watcher) (ws : List ℕ) (more : List Test) → first_refusal (state_tests w ws ++ more) ≡ found.Fine
+lists_sound : (w : Watcher) (ws : List ℕ) (more : List Test) → first_refusal (state_tests w ws ++ more) ≡ Ok tt
     → start_refuses w ≡ false
 unfolding state_tests first_refusal
 lists_sound w ws more e =
@@ -98,14 +96,14 @@ module _ (a b : List ℕ) (alike : Alike a b) where
     now_same h stage = same_known (parameters_of w) h (last_in stage)
 
     -- an accepted record, and an accepted closing, has the same outcome
-    pub feed_same : (bytes : List ℕ) → feed_refusal w bytes a ≡ found.Fine → feed_of w bytes a ≡ feed_of w bytes b
+    pub feed_same : (bytes : List ℕ) → feed_refusal w bytes a ≡ Ok tt → feed_of w bytes a ≡ feed_of w bytes b
     unfolding feed_of feed_with feed_refusal
     feed_same bytes e =
         ap (λ f. feed_with f w bytes a) e
         ∙ ap
         (λ (s : Known (parameters_of w)). (
           record {
-            answer = answer.Accepted (report_of (parameters_of w) s);
+            answer = Ok (report_of (parameters_of w) s);
             next = running_state w (entry_of w.list w.signals bytes);
           },
           area_of most_parameters (parameters_of w) s.past s.remainder,
@@ -113,14 +111,14 @@ module _ (a b : List ℕ) (alike : Alike a b) where
         (next_same (few (lists_sound w a _ e)) (rule_of w) (entry_of w.list w.signals bytes) (stage_of w.phase))
         ∙ sym (ap (λ f. feed_with f w bytes b) (sym (feed_refusal_same bytes) ∙ e))
 
-    pub close_same : close_refusal w a ≡ found.Fine → close_of w a ≡ close_of w b
+    pub close_same : close_refusal w a ≡ Ok tt → close_of w a ≡ close_of w b
     unfolding close_of close_with value_now close_refusal
     close_same e =
         ap (λ f. close_with f w a) e
         ∙ ap
         (λ (s : Known (parameters_of w)). (
           record {
-            answer = end.Closed (verdict_for (value_if_last (parameters_of w) (rule_of w) s));
+            answer = Ok (verdict_for (value_if_last (parameters_of w) (rule_of w) s));
             next = closed_state w (value_if_last (parameters_of w) (rule_of w) s);
           },
           area_of most_parameters (parameters_of w) s.past (close (parameters_of w) (rule_of w) s),
@@ -134,7 +132,7 @@ module _ (a b : List ℕ) (alike : Alike a b) where
     ask_same = go (close_refusal w a) refl
       where
         go : (f : Found) → close_refusal w a ≡ f → ask_with (close_refusal w a) w a ≡ ask_with (close_refusal w b) w b
-        go found.Fine e =
+        go (Ok tt) e =
             ask_as_close w a ∙ ap (λ (o : Ended × List ℕ). o.0.answer) (close_same e) ∙ sym (ask_as_close w b)
-        go (found.Refused r) e =
+        go (Err r) e =
             ap (λ f. ask_with f w a) e ∙ sym (ap (λ f. ask_with f w b) (sym close_refusal_same ∙ e))

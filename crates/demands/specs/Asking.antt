@@ -1,9 +1,8 @@
 -- What is promised of asking (document 02, R-8): how the log would end now, and nothing is altered by it.
-use Rattle.std.specs.Prelude.{◌≡◌, Bool, List, [], ◌∷◌, ◌++◌, ℕ}
+use Rattle.std.specs.Prelude.{◌≡◌, Bool, List, [], ◌∷◌, ◌++◌, ℕ, Ok}
 use Rattle.meaning.specs.Rule.{Entry}
 use Rattle.meaning.specs.Meaning.{value_of}
 use Rattle.watcher.specs.declared.state.Watcher.{Watcher}
-use Rattle.watcher.specs.declared.state.End.TheVariants.{Closed}
 use Rattle.watcher.specs.Numbers.{found_at, verdict_for}
 use Rattle.watcher.specs.Machine.{MachineWords, MachineState}
 use Rattle.watcher.specs.Runs.{Held}
@@ -27,14 +26,14 @@ module _ (f : Functions) (rule signals ws : List ℕ) where
   AskingReports =
       Begun f rule signals ws → (calls : List Call) → MachineCalls calls → (e : Entry) (es : List Entry)
       → course_of signals calls ≡ going (e ∷ es)
-      → asked f (reached f rule signals ws calls) ≡ Closed (verdict_for (value_of (e ∷ es) (read_rule rule)))
+      → asked f (reached f rule signals ws calls) ≡ Ok (verdict_for (value_of (e ∷ es) (read_rule rule)))
 
   -- demand 3: after a record with the word kept (broken) asking agrees with it, until somebody closes the log
   abbrev pub AskingAgrees : Type 0
   AskingAgrees =
       (calls : List Call) (bytes : List ℕ) (b : Bool) → Decides f rule signals ws calls bytes b → (more : List Call)
       → MachineCalls more → (log : List Entry) → course_of signals (calls ++ (feeding bytes ∷ more)) ≡ going log
-      → asked f (reached f rule signals ws (calls ++ (feeding bytes ∷ more))) ≡ Closed (verdict_for b)
+      → asked f (reached f rule signals ws (calls ++ (feeding bytes ∷ more))) ≡ Ok (verdict_for b)
 
 -- of every state and area that a machine can hand in, and of every run
 pub record Asking (f : Functions) : Type 0 where

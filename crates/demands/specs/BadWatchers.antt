@@ -1,11 +1,10 @@
 -- Watchers that must be caught (document 01, "What each statement has to settle"; one more by R-8): each by what it
 -- does
 -- at every start that a machine can make, or in every run.
-use Rattle.std.specs.Prelude.{◌≡◌, Bool, List, [], ◌∷◌, ◌++◌, ℕ}
+use Rattle.std.specs.Prelude.{◌≡◌, Bool, List, [], ◌∷◌, ◌++◌, ℕ, Ok}
 use Rattle.meaning.specs.Rule.{Entry}
 use Rattle.watcher.specs.declared.state.Word.TheVariants as word
 use Rattle.watcher.specs.declared.state.Verdict.TheVariants as verdict
-use Rattle.watcher.specs.declared.state.End.TheVariants.{Closed}
 use Rattle.watcher.specs.Machine.{MachineBytes, MachineWords}
 use Rattle.watcher.specs.Numbers.{Says, found_in, found_at, verdict_for}
 use Rattle.demands.specs.Watching.{Functions, Call, feeding, closing, told, asked, ending, handed, reached}
@@ -55,14 +54,14 @@ NeverSaysBroken f =
 abbrev pub NeverEndsBroken : Functions → Type 0
 NeverEndsBroken f =
     (rule signals ws : List ℕ) → Begun f rule signals ws → (calls : List Call) → MachineCalls calls
-    → ending f (reached f rule signals ws calls) ≡ Closed verdict.Broken → ⊥
+    → ending f (reached f rule signals ws calls) ≡ Ok verdict.Broken → ⊥
 
 -- R-8: one that asks by the word alone: behind the word pending it always gives the same verdict, whichever it is
 abbrev pub AsksByWord : Functions → Bool → Type 0
 AsksByWord f b =
     (rule signals ws : List ℕ) → Begun f rule signals ws → (calls : List Call) → MachineCalls calls → (bytes : List ℕ)
     → MachineBytes bytes → Says (told f (reached f rule signals ws calls) bytes) word.Pending
-    → asked f (reached f rule signals ws (calls ++ (feeding bytes ∷ []))) ≡ Closed (verdict_for b)
+    → asked f (reached f rule signals ws (calls ++ (feeding bytes ∷ []))) ≡ Ok (verdict_for b)
 
 -- one that rewrites at the first record and afterwards only nods: later records leave the area
 abbrev pub OnlyNods : Functions → Type 0

@@ -1,14 +1,12 @@
 -- The owner's three demands (document 00), of functions with the types of start, feed, ask and close, on everything
 -- that a machine can hand in. `crates/watcher` has the functions, and each demand is proved of any that meet its
 -- clauses. Runs are of any calls, asks among them; what is promised of asking itself is in `Asking.antt`.
-use Rattle.std.specs.Prelude.{◌≡◌, Bool, true, List, [], ◌∷◌, ◌++◌, ℕ, ◌+◌, ◌<◌}
+use Rattle.std.specs.Prelude.{◌≡◌, Bool, true, List, [], ◌∷◌, ◌++◌, ℕ, ◌+◌, ◌<◌, Ok}
 use Rattle.meaning.specs.Rule.{Entry, time_at, Climbs}
 use Rattle.meaning.specs.Meaning.{value_of}
 use Rattle.meaning.specs.Horizon.{within, horizon, AllFinite}
 use Rattle.watcher.specs.declared.state.Watcher.{Watcher}
 use Rattle.watcher.specs.declared.state.Word.{Word}
-use Rattle.watcher.specs.declared.state.End.TheVariants.{Closed}
-use Rattle.watcher.specs.declared.state.Found.TheVariants.{Fine}
 use Rattle.watcher.specs.Records.{time_of}
 use Rattle.watcher.specs.Numbers.{saying, decided, Says, found_in, found_at, verdict_for}
 use Rattle.watcher.specs.Calls.{zero_state, start_with, feed_with, close_with}
@@ -42,11 +40,11 @@ pub record Demand1 (f : Functions) : Type 0 where
 -- area are what the rewriting gives, as `crates/watcher/specs/Calls.antt` has it.
 pub record Rewrites (f : Functions) : Type 0 where
   pub start : (rule signals ws : List ℕ) → MachineBytes rule → MachineBytes signals → MachineWords ws
-      → NoneHolds (start_table rule signals ws) → f.start rule signals ws ≡ start_with Fine rule signals ws
+      → NoneHolds (start_table rule signals ws) → f.start rule signals ws ≡ start_with (Ok tt) rule signals ws
   pub feed : (w : Watcher) (bytes ws : List ℕ) → MachineState w → MachineBytes bytes → MachineWords ws
-      → NoneHolds (feed_table w bytes ws) → f.feed w bytes ws ≡ feed_with Fine w bytes ws
+      → NoneHolds (feed_table w bytes ws) → f.feed w bytes ws ≡ feed_with (Ok tt) w bytes ws
   pub close : (w : Watcher) (ws : List ℕ) → MachineState w → MachineWords ws
-      → NoneHolds (close_table w ws) → f.close w ws ≡ close_with Fine w ws
+      → NoneHolds (close_table w ws) → f.close w ws ≡ close_with (Ok tt) w ws
 
 -- Of a run: start accepted rule and signals, then come any calls, with state and work area handed on untouched.
 module _ (f : Functions) (rule signals ws : List ℕ) where
@@ -55,7 +53,7 @@ module _ (f : Functions) (rule signals ws : List ℕ) where
   ClosingReports =
       Begun f rule signals ws → (calls : List Call) → MachineCalls calls → (e : Entry) (es : List Entry)
       → course_of signals calls ≡ going (e ∷ es)
-      → ending f (reached f rule signals ws calls) ≡ Closed (verdict_for (value_of (e ∷ es) (read_rule rule)))
+      → ending f (reached f rule signals ws calls) ≡ Ok (verdict_for (value_of (e ∷ es) (read_rule rule)))
 
   -- after any calls state and work area are exactly what the rewriting gives for the accepted records
   abbrev pub StateIsRewritten : Type 0
@@ -106,7 +104,7 @@ module _ (f : Functions) (rule signals ws : List ℕ) where
   ClosingAgrees =
       (calls : List Call) (bytes : List ℕ) (b : Bool) → Decides f rule signals ws calls bytes b → (more : List Call)
       → MachineCalls more → (log : List Entry) → course_of signals (calls ++ (feeding bytes ∷ more)) ≡ going log
-      → ending f (reached f rule signals ws (calls ++ (feeding bytes ∷ more))) ≡ Closed (verdict_for b)
+      → ending f (reached f rule signals ws (calls ++ (feeding bytes ∷ more))) ≡ Ok (verdict_for b)
 
   -- a record whose time is past the first accepted record's by more than h minutes is decided
   abbrev pub DecidedBy : ℕ → Type 0

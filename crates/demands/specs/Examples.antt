@@ -1,21 +1,18 @@
 -- Document 01's starred examples, one to twelve, and a few more on channels, senses and horizons, as one table over
 -- bytes; when a row of it passes by the definitions alone, and what start, feed and close then answer.
+use Rattle.std.specs.Prelude.{is_err}
 use Rattle.std.specs.Prelude.{◌≡◌, Bool, true, false, not, ◌&&◌, List, [], ◌∷◌, ◌++◌, map, ℕ, ◌+◌, ◌-◌, ◌/◌, ◌%◌, eqb}
-use Rattle.std.specs.Prelude.{length}
+use Rattle.std.specs.Prelude.{length, Ok, Err}
 use Rattle.meaning.specs.Rule.{Node, Entry}
 use Rattle.meaning.specs.Meaning.{value_of}
 use Rattle.meaning.specs.Horizon.{Horizon, within, never, horizon}
 use Rattle.meaning.specs.Words.{Known, first, feed, close, Word, kept, broken, pending, word, word_of}
-use Rattle.watcher.specs.declared.state.Found.{Found}
-use Rattle.watcher.specs.declared.state.Found.TheVariants.{Fine, Refused}
-use Rattle.watcher.specs.declared.state.End.{End}
-use Rattle.watcher.specs.declared.state.End.TheVariants as end
+use Rattle.watcher.specs.Answers.{Found, End}
 use Rattle.watcher.specs.Limits.{area_words}
 use Rattle.watcher.specs.Numbers.{refusal_number, saying, verdict_value, Says}
 use Rattle.watcher.specs.Rules.{records_of}
 use Rattle.watcher.specs.Records.{entry_of}
 use Rattle.watcher.specs.Lists.{lists_refusal}
-use Rattle.watcher.specs.State.{is_refused}
 use Rattle.watcher.specs.Calls.{start_of, wait_of}
 use Rattle.watcher.specs.Runs.{Held}
 use Rattle.demands.specs.Watching.{defined, feeding, told, ending, handed, reached}
@@ -153,8 +150,8 @@ table =
 
 -- lists are refused with a number
 abbrev pub refused_with : ℕ → Found → Bool
-refused_with n Fine = false
-refused_with n (Refused r) = eqb (refusal_number r) n
+refused_with n (Ok tt) = false
+refused_with n (Err r) = eqb (refusal_number r) n
 
 -- every element of a list passes a test
 abbrev pub all_in : {A : Type 0} → (A → Bool) → List A → Bool
@@ -199,7 +196,7 @@ all_taken signals log (bytes ∷ more) = accepts log bytes && all_taken signals 
 -- lists and records are accepted, the words are those given, and the log's value is the closing word's
 abbrev pub right : (rule signals : List ℕ) → List (List ℕ) → List Word → Word → Bool
 right rule signals log words closing =
-    not (is_refused (lists_refusal rule signals)) && all_taken signals [] log
+    not (is_err (lists_refusal rule signals)) && all_taken signals [] log
     && same_words (words_of (parameters_in rule) (read_rule rule) (seen signals log)) (words ++ (closing ∷ []))
     && eqb (word_number (word_of (value_of (seen signals log) (read_rule rule)))) (word_number closing)
 
@@ -213,11 +210,11 @@ unfoldable pub passes : Row → Bool
 passes (says rule log words closing) = right rule vents log words closing
 passes (winds limit unit meets fails) =
     wind_right limit unit meets kept && all_in (λ wind. wind_right limit unit wind broken) fails
-passes (accepted rule n) = not (is_refused (lists_refusal rule vents)) && eqb (parameters_in rule) n
+passes (accepted rule n) = not (is_err (lists_refusal rule vents)) && eqb (parameters_in rule) n
 passes (refused rule number) = refused_with number (lists_refusal rule vents)
 passes (reads signal bytes w) = right rule_signal signal (bytes ∷ []) (pending ∷ []) w
 passes (waits rule h) =
-    not (is_refused (lists_refusal rule vents))
+    not (is_err (lists_refusal rule vents))
     && eqb (horizon_number (horizon (read_rule rule))) (horizon_number h)
 
 -- records fed one after another get these words
@@ -230,13 +227,13 @@ GetWords h (bytes ∷ more) (w ∷ words) =
 
 -- closing gets a verdict that says this
 unfoldable pub EndsWith : End → Word → Type 0
-EndsWith (end.Closed v) w = word_of (verdict_value v) ≡ w
-EndsWith (end.Refused r) w = ⊥
+EndsWith (Ok v) w = word_of (verdict_value v) ≡ w
+EndsWith (Err r) w = ⊥
 
 -- a run with a work area: it is started, its records get these words, and closing says this
 pub record Run (rule signals : List ℕ) (log : List (List ℕ)) (words : List Word) (closing : Word) (ws : List ℕ) : Type 0
   where
-    pub starts : (start_of rule signals ws).0.found ≡ Fine
+    pub starts : (start_of rule signals ws).0.found ≡ Ok tt
     pub told : GetWords (reached defined rule signals ws []) log words
     pub ends : EndsWith (ending defined (reached defined rule signals ws (map feeding log))) closing
 
@@ -257,10 +254,10 @@ Answers (winds limit unit meets fails) =
     (ws : List ℕ) → length ws ≡ area_words
     → WindRun limit unit meets kept ws × AllOf (λ wind. WindRun limit unit wind broken ws) fails
 Answers (accepted rule n) =
-    (parameters_in rule ≡ n) × ((ws : List ℕ) → length ws ≡ area_words → (start_of rule vents ws).0.found ≡ Fine)
+    (parameters_in rule ≡ n) × ((ws : List ℕ) → length ws ≡ area_words → (start_of rule vents ws).0.found ≡ Ok tt)
 Answers (refused rule number) = (ws : List ℕ) → Carries (start_of rule vents ws).0.found number
 Answers (reads signal bytes w) =
     (ws : List ℕ) → length ws ≡ area_words → Run rule_signal signal (bytes ∷ []) (pending ∷ []) w ws
 Answers (waits rule h) =
     (ws : List ℕ) → length ws ≡ area_words
-    → ((start_of rule vents ws).0.found ≡ Fine) × (wait_of (start_of rule vents ws).0.next ≡ h)
+    → ((start_of rule vents ws).0.found ≡ Ok tt) × (wait_of (start_of rule vents ws).0.next ≡ h)

@@ -1,8 +1,7 @@
 -- Document 01's table of refusals: what each call tests, in which order, and by which number it refuses.
-use Rattle.std.specs.Prelude.{◌≡◌, Bool, true, false, ◌⊎◌, ◌↔◌, List, [], ◌∷◌, ◌++◌, ℕ}
+use Rattle.std.specs.Prelude.{◌≡◌, Bool, true, false, ◌⊎◌, ◌↔◌, List, [], ◌∷◌, ◌++◌, ℕ, Ok, Err}
 use Rattle.watcher.specs.declared.state.Watcher.{Watcher}
-use Rattle.watcher.specs.declared.state.Found.{Found}
-use Rattle.watcher.specs.declared.state.Found.TheVariants.{Fine, Refused}
+use Rattle.watcher.specs.Answers.{Found}
 use Rattle.watcher.specs.Rules.{records_of, wrong_length, rule_breaks, has_twins, many_parameters}
 use Rattle.watcher.specs.Signals.{wrong_signals, names_missing}
 use Rattle.watcher.specs.Records.{wrong_record, time_of}
@@ -62,12 +61,12 @@ NoneHolds (l ∷ more) = (l.holds ≡ false) × NoneHolds more
 
 -- what was found is a refusal that carries this number
 unfoldable pub Carries : Found → ℕ → Type 0
-Carries Fine n = ⊥
-Carries (Refused r) n = refusal_number r ≡ n
+Carries (Ok tt) n = ⊥
+Carries (Err r) n = refusal_number r ≡ n
 
 -- an answer is as the table says: it is given in every case, a refusal with a number exactly when this test is the
 -- first that holds, and none exactly when no test holds
 pub record AsTable (table : List Line) (found : Found) : Type 0 where
-  pub answered : (found ≡ Fine) ⊎ ((n : ℕ) × Carries found n)
+  pub answered : (found ≡ Ok tt) ⊎ ((n : ℕ) × Carries found n)
   pub refused : (n : ℕ) → Carries found n ↔ Given table n
-  pub fine : (found ≡ Fine) ↔ NoneHolds table
+  pub fine : (found ≡ Ok tt) ↔ NoneHolds table

@@ -1,12 +1,10 @@
 -- Functions with the types of start, feed, ask and close: what it is to meet their clauses, and runs of them.
-use Rattle.std.specs.Prelude.{◌≡◌, List, [], ◌∷◌, ℕ}
+use Rattle.std.specs.Prelude.{◌≡◌, List, [], ◌∷◌, ℕ, Ok}
 use Rattle.watcher.specs.declared.state.Watcher.{Watcher}
 use Rattle.watcher.specs.declared.state.Started.{Started}
 use Rattle.watcher.specs.declared.state.Fed.{Fed}
 use Rattle.watcher.specs.declared.state.Ended.{Ended}
-use Rattle.watcher.specs.declared.state.Answer.{Answer}
-use Rattle.watcher.specs.declared.state.End.{End}
-use Rattle.watcher.specs.declared.state.Found.TheVariants.{Fine}
+use Rattle.watcher.specs.Answers.{Answer, End}
 use Rattle.watcher.specs.Machine.{MachineBytes, MachineWords, MachineState}
 use Rattle.watcher.specs.Calls.{start_of, feed_of, ask_of, close_of}
 use Rattle.watcher.specs.Clauses.{StartClause, FeedClause, AskClause, CloseClause}
@@ -80,4 +78,4 @@ pub record Begun (f : Functions) (rule signals ws : List ℕ) : Type 0 where
   pub rule_bytes : MachineBytes rule
   pub signal_bytes : MachineBytes signals
   pub words : MachineWords ws
-  pub fine : (f.start rule signals ws).0.found ≡ Fine
+  pub fine : (f.start rule signals ws).0.found ≡ Ok tt

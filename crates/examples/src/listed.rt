@@ -1,154 +1,111 @@
 // The fourteen examples of document 01.
 use crate::answers::run;
 use crate::given::{
-    first, put_rule, put_signal, put_steps, put_wind, rule_a, rule_b, rule_nothing, vent_signals,
+    Channel, NOTHING, Record, Sense, Unit, rule_a, rule_b, rule_nothing, rule_signal,
+    signal_record, step, vent_signals,
 };
 use crate::told::{right, tell};
 use std::io;
 
-// Runs one log and answers whether the watcher said what is wanted.
-fn runs(
-    rt: &impl Print,
-    rule: &[u8],
-    signals: &[u8],
-    log: &[u8],
-    wanted: &[u8],
-    area: &mut [u64],
-) -> io::Result<bool> {
-    let mut said = [0u8; 16];
-    run(rule, signals, log, &mut said, area);
-    right(rt, &said, wanted)
+// Runs of logs: where they tell, and the watcher's area.
+#[derive(Drop)]
+pub(crate) struct Runs<'a, P> {
+    pub(crate) rt: &'a P,
+    pub(crate) area: &'a mut [u64],
 }
 
-// Runs a log of the two signals.
-fn vents(
-    rt: &impl Print,
-    rule: &[u8],
-    steps: &[u8],
-    wanted: &[u8],
-    area: &mut [u64],
-) -> io::Result<bool> {
-    let signals = vent_signals();
-    let mut log = [0u8; 64];
-    let length = put_steps(&mut log, steps);
-    runs(rt, rule, &signals, first(&log, length), wanted, area)
-}
+impl<P: Print> Runs<'_, P> {
+    // Whether the watcher says what is wanted of a log.
+    fn says(
+        &mut self,
+        rule: &[u8],
+        signals: &[u8],
+        log: &[Record],
+        wanted: &str,
+    ) -> io::Result<bool> {
+        let said = run(rule, signals, log, self.area);
+        right(self.rt, said.as_str(), wanted)
+    }
 
-// Runs rule A with an interval.
-fn until(
-    rt: &impl Print,
-    low: u8,
-    high: u8,
-    steps: &[u8],
-    wanted: &[u8],
-    area: &mut [u64],
-) -> io::Result<bool> {
-    let rule = rule_a(low, high);
-    vents(rt, &rule, steps, wanted, area)
-}
+    // Whether it does of a log of the two vents.
+    fn vents(&mut self, rule: &[u8], log: &[Record], wanted: &str) -> io::Result<bool> {
+        self.says(rule, &vent_signals(), log, wanted)
+    }
 
-// Runs rule A as an example.
-fn a(
-    rt: &impl Print,
-    name: &[u8],
-    steps: &[u8],
-    wanted: &[u8],
-    area: &mut [u64],
-) -> io::Result<()> {
-    tell(rt, name, until(rt, 0, 2, steps, wanted, area)?)
-}
+    // Tells an example that is one log of the two vents.
+    fn example(&mut self, name: &str, rule: &[u8], log: &[Record], wanted: &str) -> io::Result<()> {
+        let ok = self.vents(rule, log, wanted)?;
+        tell(self.rt, name, ok)
+    }
 
-// Runs rule B as an example.
-fn b(
-    rt: &impl Print,
-    name: &[u8],
-    steps: &[u8],
-    wanted: &[u8],
-    area: &mut [u64],
-) -> io::Result<()> {
-    let rule = rule_b();
-    tell(rt, name, vents(rt, &rule, steps, wanted, area)?)
-}
+    // Whether it does of the rule that is a signal, over one record.
+    pub(crate) fn signal(
+        &mut self,
+        signal_list: &[u8],
+        record: Record,
+        wanted: &str,
+    ) -> io::Result<bool> {
+        self.says(&rule_signal(0), signal_list, &[record], wanted)
+    }
 
-// Runs the rule that is signal 0.
-pub(crate) fn signal_runs(
-    rt: &impl Print,
-    signals: &[u8],
-    log: &[u8],
-    wanted: &[u8],
-    area: &mut [u64],
-) -> io::Result<bool> {
-    let mut rule = [0u8; 8];
-    put_rule(&mut rule, 0, 3, 0, 0);
-    runs(rt, &rule, signals, log, wanted, area)
-}
+    // Whether it does of one record of wind against limit 120.
+    fn wind(&mut self, wind: u16, unit: Unit, wanted: &str) -> io::Result<bool> {
+        let list = signal_record(Channel::Wind, Sense::AtLeast, 120);
+        let record = Record {
+            wind,
+            unit,
+            ..NOTHING
+        };
+        self.signal(&list, record, wanted)
+    }
 
-// Runs one record of wind against limit 120, in km/h (unit 0) or m/s (unit 1).
-fn wind(
-    rt: &impl Print,
-    strength: u64,
-    unit: u8,
-    wanted: &[u8],
-    area: &mut [u64],
-) -> io::Result<bool> {
-    let mut signals = [0u8; 8];
-    put_signal(&mut signals, 0, 2, 120);
-    let mut log = [0u8; 16];
-    put_wind(&mut log, 0, strength, unit);
-    signal_runs(rt, &signals, &log, wanted, area)
-}
+    // Examples 1 to 6, of rule A.
+    fn until_examples(&mut self) -> io::Result<()> {
+        let rule = rule_a(0, 2);
+        let met = [step(0, 1, 0), step(1, 1, 0), step(2, 0, 1)];
+        self.example("1", &rule, &met, "PPP.K bnnya")?;
+        self.example("2", &rule, &[step(0, 1, 0), step(3, 0, 1)], "PB.B bnna")?;
+        self.example("3", &rule, &[step(0, 1, 0), step(2, 0, 1)], "PP.K bnya")?;
+        self.example("4", &rule, &[step(0, 1, 0)], "P.B bna")?;
+        self.example("5", &rule, &[step(5, 1, 0), step(5, 0, 1)], "PP.K bnya")?;
+        self.example("6", &rule, &[step(0, 0, 0), step(0, 0, 0)], "PB.B bnna")
+    }
 
-// Examples 1 to 4.
-fn until_examples(rt: &impl Print, area: &mut [u64]) -> io::Result<()> {
-    a(rt, b"1", b"0;1,0 1;1,0 2;0,1", b"PPP.K bnnya", area)?;
-    a(rt, b"2", b"0;1,0 3;0,1", b"PB.B bnna", area)?;
-    a(rt, b"3", b"0;1,0 2;0,1", b"PP.K bnya", area)?;
-    a(rt, b"4", b"0;1,0", b"P.B bna", area)
-}
+    // Examples 7 and 8, of rule B, and 9.
+    fn since_examples(&mut self) -> io::Result<()> {
+        let rule = rule_b();
+        self.example("7", &rule, &[step(0, 0, 1), step(1, 1, 0)], "PP.K bnya")?;
+        self.example("8", &rule, &[step(0, 0, 1), step(2, 1, 0)], "PP.B bnna")?;
+        self.example("9", &rule_nothing(), &[step(0, 0, 0)], "B.B bna")
+    }
 
-// Examples 5 to 8.
-fn minute_and_since_examples(rt: &impl Print, area: &mut [u64]) -> io::Result<()> {
-    a(rt, b"5", b"5;1,0 5;0,1", b"PP.K bnya", area)?;
-    a(rt, b"6", b"0;0,0 0;0,0", b"PB.B bnna", area)?;
-    b(rt, b"7", b"0;0,1 1;1,0", b"PP.K bnya", area)?;
-    b(rt, b"8", b"0;0,1 2;1,0", b"PP.B bnna", area)
-}
+    // Examples 10 and 11.
+    fn wind_examples(&mut self) -> io::Result<()> {
+        let met = self.wind(432, Unit::Kmh, "P.K bya")?;
+        let less = self.wind(431, Unit::Kmh, "P.B bna")?;
+        let third = self.wind(144, Unit::Kmh, "P.B bna")?;
+        tell(self.rt, "10", met && less && third)?;
+        let equal = self.wind(120, Unit::Ms, "P.K bya")?;
+        let below = self.wind(119, Unit::Ms, "P.B bna")?;
+        tell(self.rt, "11", equal && below)
+    }
 
-// Example 9.
-fn nothing_example(rt: &impl Print, area: &mut [u64]) -> io::Result<()> {
-    let rule = rule_nothing();
-    tell(rt, b"9", vents(rt, &rule, b"0;0,0", b"B.B bna", area)?)
-}
+    // Examples 12 to 14.
+    fn last_examples(&mut self) -> io::Result<()> {
+        let log = [step(0, 1, 0), step(9, 0, 1)];
+        let taken = self.vents(&rule_a(0, 9), &log, "PP.K bnya")?;
+        let refused = self.vents(&rule_a(0, 10), &log, "4")?;
+        tell(self.rt, "12", taken && refused)?;
+        self.example("13", &rule_a(9, 255), &log, "PP.K bnya")?;
+        let back = [step(3, 1, 0), step(2, 0, 1), step(3, 0, 1)];
+        self.example("14", &rule_a(0, 2), &back, "P9P.K bnnya")
+    }
 
-// Examples 10 and 11.
-fn wind_examples(rt: &impl Print, area: &mut [u64]) -> io::Result<()> {
-    let met = wind(rt, 432, 0, b"P.K bya", area)?;
-    let less = wind(rt, 431, 0, b"P.B bna", area)?;
-    let third = wind(rt, 144, 0, b"P.B bna", area)?;
-    tell(rt, b"10", met & less & third)?;
-    let equal = wind(rt, 120, 1, b"P.K bya", area)?;
-    let below = wind(rt, 119, 1, b"P.B bna", area)?;
-    tell(rt, b"11", equal & below)
-}
-
-// Examples 12 to 14.
-fn last_examples(rt: &impl Print, area: &mut [u64]) -> io::Result<()> {
-    let taken = until(rt, 0, 9, b"0;1,0 9;0,1", b"PP.K bnya", area)?;
-    let refused = until(rt, 0, 10, b"0;1,0 9;0,1", b"4", area)?;
-    tell(rt, b"12", taken & refused)?;
-    tell(
-        rt,
-        b"13",
-        until(rt, 9, 255, b"0;1,0 9;0,1", b"PP.K bnya", area)?,
-    )?;
-    a(rt, b"14", b"3;1,0 2;0,1 3;0,1", b"P9P.K bnnya", area)
-}
-
-// The fourteen examples, in order.
-pub(crate) fn examples(rt: &impl Print, area: &mut [u64]) -> io::Result<()> {
-    until_examples(rt, area)?;
-    minute_and_since_examples(rt, area)?;
-    nothing_example(rt, area)?;
-    wind_examples(rt, area)?;
-    last_examples(rt, area)
+    // The fourteen examples, in order.
+    pub(crate) fn examples(&mut self) -> io::Result<()> {
+        self.until_examples()?;
+        self.since_examples()?;
+        self.wind_examples()?;
+        self.last_examples()
+    }
 }

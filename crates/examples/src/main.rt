@@ -7,13 +7,18 @@ mod listed;
 mod readings;
 mod told;
 
-use crate::listed::examples;
-use crate::readings::readings;
+use crate::listed::Runs;
+use crate::readings::rows;
 use std::io;
 use watcher::state::Watcher;
 
 fn main(rt: HostRuntime) -> io::Result<()> {
     let mut area = [0u64; Watcher::WORDS];
-    examples(&rt, &mut area)?;
-    readings(&rt, &mut area)
+    let mut runs = Runs {
+        rt: &rt,
+        area: &mut area,
+    };
+    runs.examples()?;
+    rows(&rt)?;
+    runs.readings()
 }

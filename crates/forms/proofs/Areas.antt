@@ -3,16 +3,19 @@
 use mathlib.Core.Path.{◌≡◌, refl, sym, ap, ap₂, ◌∙◌, subst}
 use mathlib.Core.Bool.{true, false, ◌&&◌, and-false, cond}
 use mathlib.Core.Logic.{◌⊎◌, inl, inr, ⊎_elim}
-use mathlib.Core.List.{List}
-use Prim.Native.Nat.{ℕ, suc, ◌+◌, ◌-◌, ◌*◌, ◌/◌, ◌%◌, ◌^◌, ◌≤◌, ◌<◌}
+use mathlib.Core.List.{List, ◌++◌}
+use Prim.Native.Nat.{ℕ, suc, ◌+◌, ◌-◌, ◌*◌, ◌/◌, ◌%◌, ◌^◌, ◌≤◌, ◌<◌, min}
 use native.Mathlib.Omega.{arith}
 use lib.Dec.{leb, ltb, lit<}
-use lib.ListN.{length, get_or, replicate, get_or-eq_default}
-use lib.Seq.{ext_get_or}
+use lib.ListN.{length, get_or, replicate, length-replicate, take, drop, get_or-append, get_or-eq_default}
+use lib.Seq.{ext_get_or, take-length}
 use borrow.Author.Tests.{lt-ltb, le-ltb, le-leb, lt-leb}
+use Rattle.std.proofs.lemmas.List.{length-append, length-take-le, length-drop, get_or-take, get_or-drop}
+use Rattle.std.proofs.lemmas.List.{get_or-append_right}
 use Rattle.ground.specs.Bits.{Words}
 use Rattle.ground.proofs.Folds.{less_or_not}
 use Rattle.ground.proofs.Tabs.{length_tab, get_d_tab, get_d_tab_out, tab_is, tab_cong}
+use Rattle.ground.proofs.Tabs.{parted, length_parted, parted_new, parted_old}
 use Rattle.ground.proofs.Numbers.{zero_at}
 use Rattle.forms.specs.Area.{row_at, put_rows}
 
@@ -90,6 +93,85 @@ module _ (ws : List ℕ) (base count : ℕ) (g : ℕ → List ℕ) where
   row_kept place o =
       tab_cong 64 _ _
       (λ i h. word_kept (64 * place + i) (⊎_elim (λ l. inl (omega arith)) (λ l. inr (omega arith)) o))
+
+-- words exchanged by the words of rows
+parted_rows : (ws new : List ℕ) (from to : ℕ) → from ≤ to → to ≤ length ws → length new ≡ to - from
+    → (base count : ℕ) (g : ℕ → List ℕ) → from ≡ min (length ws) (64 * (base + 0))
+    → to ≡ min (length ws) (64 * (base + count))
+    → ((i : ℕ) → i < to - from → get_or new i 0 ≡ word_of g base (from + i))
+    → parted ws new from to ≡ put_rows ws base count g
+parted_rows ws new from to low high long base count g f t p =
+    put_rows_is ws base count g (parted ws new from to) (length_parted ws new from to low high long)
+    (λ k h l u.
+    let e : from + (k - from) ≡ k = omega arith in
+    parted_new ws new from to low high long k 0 (omega arith) (omega arith) ∙ p (k - from) (omega arith)
+    ∙ ap (word_of g base) e)
+    (λ k o.
+    parted_old ws new from to low high long k 0
+    (⊎_elim inl (λ l. inr (⊎_elim (λ h. omega arith) (λ h. omega arith) o)) (less_or_not k from)))
+
+-- the words of one row, and of rows of zeros
+module _ (ws new : List ℕ) (from to base : ℕ) where
+  pub stored : (row : List ℕ) → length row ≡ 64 → from ≡ min (length ws) (64 * (base + 0))
+      → to ≡ min (length ws) (64 * (base + 1)) → new ≡ take (to - from) row
+      → take from ws ++ (new ++ drop (to - from) (drop from ws)) ≡ put_rows ws base 1 (λ _. row)
+  stored row r f t e =
+      parted_rows ws new from to (omega arith) (omega arith)
+      (ap length e ∙ length-take-le (to - from) row (omega arith)) base 1 (λ _. row) f t
+      (λ i l.
+      let q : (from + i) % 64 ≡ i = omega arith in
+      ap (λ xs. get_or xs i 0) e ∙ get_or-take (to - from) row i 0 l ∙ ap (λ j. get_or row j 0) (sym q))
+
+  pub cleared : (count : ℕ) → from ≡ min (length ws) (64 * (base + 0)) → to ≡ min (length ws) (64 * (base + count))
+      → new ≡ replicate (length (take (to - from) (drop from ws))) 0
+      → take from ws ++ (new ++ drop (to - from) (drop from ws)) ≡ put_rows ws base count (λ _. replicate 64 0)
+  cleared count f t e =
+      let n : ℕ = length (take (to - from) (drop from ws)) in
+      parted_rows ws new from to (omega arith) (omega arith)
+      (ap length e ∙ length-replicate n 0
+      ∙ length-take-le (to - from) (drop from ws) (omega (arith, length-drop from ws)))
+      base count (λ _. replicate 64 0) f t
+      (λ i l. ap (λ xs. get_or xs i 0) e ∙ zero_at n i ∙ sym (zero_at 64 ((from + i) % 64)))
+
+-- the words of a row in front of zeros
+loaded_rest : (ws new : List ℕ) (from n place : ℕ) → from ≡ min (length ws) (64 * place)
+    → n ≡ min (length (drop from ws)) 64 → new ≡ take n (drop from ws)
+    → new ++ drop n (replicate 64 0) ≡ row_at ws place
+unfolding row_at
+loaded_rest ws new from n place f t e =
+    tab_is 64 (λ i. get_or ws (64 * place + i) 0) (new ++ drop n (replicate 64 0)) 0
+    (omega (
+      arith,
+      long,
+      length-append new (drop n (replicate 64 0)),
+      length-drop {A = ℕ} n (replicate 64 0),
+      length-replicate {A = ℕ} 64 0,
+    ))
+    (λ i h. ⊎_elim (here i) (past i h) (less_or_not i n))
+  where
+    long : length new ≡ n
+    long = ap length e ∙ length-take-le n (drop from ws) (omega arith)
+
+    here : (i : ℕ) → i < n → get_or (new ++ drop n (replicate 64 0)) i 0 ≡ get_or ws (64 * place + i) 0
+    here i h =
+        let q : from + i ≡ 64 * place + i = omega (arith, length-drop from ws) in
+        get_or-append new (drop n (replicate 64 0)) 0 i (omega (arith, long))
+        ∙ ap (λ xs. get_or xs i 0) e ∙ get_or-take n (drop from ws) i 0 h
+        ∙ get_or-drop from ws i 0 ∙ ap (λ j. get_or ws j 0) q
+
+    past : (i : ℕ) → i < 64 → n ≤ i → get_or (new ++ drop n (replicate 64 0)) i 0 ≡ get_or ws (64 * place + i) 0
+    past i l h =
+        get_or-append_right new (drop n (replicate 64 0)) n i 0 long h
+        ∙ get_or-drop n (replicate 64 0) (i - n) 0 ∙ zero_at 64 (n + (i - n))
+        ∙ sym (get_or-eq_default ws 0 (omega (arith, length-drop from ws)))
+
+pub loaded : (ws new : List ℕ) (from n place : ℕ) → from ≡ min (length ws) (64 * place)
+    → n ≡ min (length (take (length ws - from) (drop from ws))) 64
+    → new ≡ take n (take (length ws - from) (drop from ws)) → new ++ drop n (replicate 64 0) ≡ row_at ws place
+loaded ws new from n place f t e =
+    let all : take (length ws - from) (drop from ws) ≡ drop from ws
+    = ap (λ k. take k (drop from ws)) (sym (length-drop from ws)) ∙ take-length (drop from ws) in
+    loaded_rest ws new from n place f (t ∙ ap (λ xs. min (length xs) 64) all) (e ∙ ap (take n) all)
 
 -- no row, one row more, the same rows
 pub put_rows_none : (ws : List ℕ) (base : ℕ) (g : ℕ → List ℕ) → put_rows ws base 0 g ≡ ws

@@ -3,7 +3,7 @@
 use mathlib.Core.Path.{◌≡◌, refl, sym, ap, ap₂, ◌∙◌, subst}
 use mathlib.Core.Bool.{Bool, true, false, ◌&&◌, and_comm, and_assoc}
 use mathlib.Core.List.{List}
-use Prim.Native.Nat.{ℕ, suc, ◌+◌, ◌*◌, ◌/◌, ◌%◌, ◌^◌, ◌≤◌, ◌<◌}
+use Prim.Native.Nat.{ℕ, ◌+◌, ◌*◌, ◌/◌, ◌%◌, ◌^◌, ◌≤◌, ◌<◌}
 use native.Mathlib.Numerals.{add-one}
 use native.Mathlib.Omega.{arith}
 use lib.ListN.{get_or, set, length-set}
@@ -20,7 +20,7 @@ use Rattle.ground.proofs.Bits.{bit_xor_lem, bit_pow, one_shl}
 use Rattle.forms.specs.Form.{Form, and}
 use Rattle.forms.specs.Words.{bit_of, pack}
 use Rattle.forms.specs.Document.{conjunct}
-use Rattle.forms.specs.inside.Steps.{Next}
+use Rattle.forms.specs.inside.Steps.{Free, First}
 use Rattle.forms.proofs.Document.{bit_of_high, and_document}
 use Rattle.forms.proofs.Packing.{room, bit_pack, pack_is}
 
@@ -81,52 +81,48 @@ flip_bit ws k l h w = go (eqb (l / 64) (k / 64)) refl
 pub record Adding (row : List ℕ) (old : ℕ → Bool) (h : ℕ → ℕ → Bool) (r : List ℕ) (j : ℕ) : Type 0 where
   pub words : Words 64 r
   pub place : j ≤ 4096
-  pub here : j < 4096 → bit_at row j ≡ true
   pub bits : (l : ℕ) → l < 4096 → bit_at r l ≡ old l ⊕ parity j (λ x. bit_at row x && h x l)
 
 module _ (row : List ℕ) (old : ℕ → Bool) (h : ℕ → ℕ → Bool) where
-  -- up to the first term there is nothing to add
-  pub adding_first : (r : List ℕ) (j : ℕ) → Words 64 r → ((l : ℕ) → l < 4096 → bit_at r l ≡ old l) → Next row 0 4096 j
+  -- before the first place there is nothing to add
+  pub adding_first : (r : List ℕ) (j : ℕ) → j ≡ 0 → Words 64 r → ((l : ℕ) → l < 4096 → bit_at r l ≡ old l)
       → Adding row old h r j
   unfolding fold
-  adding_first r j w e next = record {
-    words = w;
-    place = next.high;
-    here = next.here;
-    bits = λ l k. e l k ∙ sym (ap (λ b. old l ⊕ b) (none l) ∙ ⊕_false (old l));
-  }
-    where
-      none : (l : ℕ) → parity j (λ x. bit_at row x && h x l) ≡ false
-      none l =
-          fold_skip ◌⊕◌ false ⊕_false j (λ x. bit_at row x && h x l) 0 (omega arith)
-          (λ i a b. ap (λ y. y && h i l) (next.none i a b))
+  adding_first r j z w e =
+      subst (Adding row old h r) (sym z)
+      (record { words = w; place = omega arith; bits = λ l k. e l k ∙ sym (⊕_false (old l)) })
 
-  -- one term is added, and the next one leaves out nothing
-  pub adding_more : (r r' : List ℕ) (j j' : ℕ) → Adding row old h r j → j < 4096 → Words 64 r'
-      → ((l : ℕ) → l < 4096 → bit_at r' l ≡ bit_at r l ⊕ h j l) → Next row (j + 1) 4096 j' → Adding row old h r' j'
+  -- places with no term add nothing
+  passed : (j k : ℕ) → j ≤ k → Free row j k → (l : ℕ)
+      → parity k (λ x. bit_at row x && h x l) ≡ parity j (λ x. bit_at row x && h x l)
+  passed j k u free l =
+      fold_skip ◌⊕◌ false ⊕_false k (λ x. bit_at row x && h x l) j u (λ i a b. ap (λ y. y && h i l) (free i a b))
+
+  -- the next term is added, and the places from `on` on are left
+  pub adding_more : (r r' left : List ℕ) (j k on : ℕ) → left ≡ row → Adding row old h r j
+      → First left j 4096 k × (on ≡ k + 1) → Words 64 r'
+      → ((l : ℕ) → l < 4096 → bit_at r' l ≡ bit_at r l ⊕ h k l) → Adding row old h r' on
   unfolding fold
-  adding_more r r' j j' sofar less w e next = record {
-    words = w;
-    place = next.high;
-    here = next.here;
-    bits = λ l k.
-        e l k ∙ ap (λ b. b ⊕ h j l) (sofar.bits l k)
-        ∙ ⊕_assoc (old l) (parity j (λ x. bit_at row x && h x l)) (h j l)
-        ∙ ap (λ b. old l ⊕ b)
-        (ap (λ b. parity j (λ x. bit_at row x && h x l) ⊕ (b && h j l)) (sym (sofar.here less)) ∙ sym (all l));
-  }
-    where
-      all : (l : ℕ) → parity j' (λ x. bit_at row x && h x l) ≡ parity (suc j) (λ x. bit_at row x && h x l)
-      all l =
-          fold_skip ◌⊕◌ false ⊕_false j' (λ x. bit_at row x && h x l) (suc j)
-          (subst (λ x. x ≤ j') (add-one j) (next.low (omega arith)))
-          (λ i a b. ap (λ y. y && h i l) (next.none i (omega arith) b))
+  adding_more r r' left j k on same sofar gave w e =
+      let next : First row j 4096 k = subst (λ ws. First ws j 4096 k) same gave.0 in
+      subst (Adding row old h r') (sym gave.1)
+      (record {
+        words = w;
+        place = omega (arith, next.high);
+        bits = λ l u.
+            e l u ∙ ap (λ b. b ⊕ h k l) (sofar.bits l u)
+            ∙ ⊕_assoc (old l) (parity j (λ x. bit_at row x && h x l)) (h k l)
+            ∙ ap (λ b. old l ⊕ b)
+            (ap₂ ◌⊕◌ (sym (passed j k next.low next.none l)) (sym (ap (λ b. b && h k l) next.here))
+            ∙ ap (λ n. parity n (λ x. bit_at row x && h x l)) (sym (add-one k)));
+      })
 
-  pub adding_done : (r : List ℕ) (j : ℕ) → Adding row old h r j → 4096 ≤ j
+  -- no term is left
+  pub adding_done : (r left : List ℕ) (j : ℕ) → left ≡ row → Adding row old h r j → Free left j 4096
       → (l : ℕ) → l < 4096 → bit_at r l ≡ old l ⊕ parity 4096 (λ x. bit_at row x && h x l)
-  adding_done r j sofar end l k =
-      let e : j ≡ 4096 = omega (arith, sofar.place) in
-      sofar.bits l k ∙ ap (λ n. old l ⊕ parity n (λ x. bit_at row x && h x l)) e
+  adding_done r left j same sofar free l k =
+      sofar.bits l k
+      ∙ ap (λ b. old l ⊕ b) (sym (passed j 4096 sofar.place (subst (λ ws. Free ws j 4096) same free) l))
 
 -- the union of two terms is a term
 pub union_lt : (i j : ℕ) → i < 4096 → j < 4096 → bit_or i j < 4096

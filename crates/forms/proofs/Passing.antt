@@ -8,12 +8,10 @@ use Prim.Native.Nat.{ℕ, ◌+◌, ◌-◌, ◌*◌, ◌/◌, ◌%◌, ◌^◌, 
 use native.Mathlib.Nat.{div-eq_of_lt}
 use native.Mathlib.Numerals.{add-one}
 use native.Mathlib.Omega.{arith}
-use lib.ListN.{length, get_or, set}
-use lib.Seq.{get_or-set_same, get_or-set_other}
-use borrow.Author.Count.{below_more}
+use lib.ListN.{length, get_or}
 use lib.Bits.{bit_xor, bit_and}
 use lib.Dec.{leb}
-use lib.Pow.{pow-add, pow_pos, pow-lt}
+use lib.Pow.{pow-add}
 use borrow.Author.Tests.{eq-eqb, ne_eqb}
 use Rattle.ground.specs.Fold.{◌⊕◌, fold, every}
 use Rattle.ground.specs.Bits.{bit, bit_at}
@@ -24,7 +22,7 @@ use Rattle.ground.proofs.Bits.{one_shl}
 use Rattle.ground.proofs.Numbers.{bit_minus, words_of_lem}
 use Rattle.forms.specs.Form.{Form, constant, has, truth}
 use Rattle.forms.specs.Words.{most, pack}
-use Rattle.forms.specs.inside.Steps.{Next, masks, passed_bit, PassedWord, Passed}
+use Rattle.forms.specs.inside.Steps.{Free, masks, passed_bit, PassedWord, Passed}
 use Rattle.forms.proofs.Document.{bit_of_low}
 use Rattle.forms.proofs.Truths.{pass, passes, has_pass, passes_truth, truth_false}
 use Rattle.forms.proofs.Packing.{bit_pack, pack_is, most_is, most_few, most_wide}
@@ -89,13 +87,6 @@ pass_inside row p i h t k =
 
     low : bit t p ≡ bit (64 * i + t) p
     low = ap (λ x. bit x p) (let e : t ≡ (64 * i + t) % 64 = omega arith in e) ∙ bit_low (64 * i + t) 6 p h
-
--- the code's steps: 1 << p
-pub step_in : (p : ℕ) → p < 6 → (1 * 2 ^ p) % 2 ^ 64 < 64
-step_in p h = subst (λ x. x < 64) (sym (one_shl p (omega arith))) (pow-lt {i = p} {j = 6} h)
-
-pub step_pos : (p : ℕ) → p < 64 → 0 < (1 * 2 ^ p) % 2 ^ 64
-step_pos p h = subst (λ x. 0 < x) (sym (one_shl p h)) (pow_pos p)
 
 -- where a quotient is odd, the divisor is no more than the number
 pub odd_le : (i by : ℕ) → i / by % 2 ≡ 1 → by ≤ i
@@ -172,17 +163,6 @@ passed_form m f row r p wide h e made =
         ∙ sym (ap (λ b. has m f (bit k) ⊕ (b && has m f (bit k))) s)
         ∙ sym (has_pass m p f (bit k) (bit k) h (λ j n. refl) s)
 
--- one word more
-pub passed_more : (row r : List ℕ) (p i x : ℕ) → length r ≡ 64 → i < 64 → x < 2 ^ 64 → PassedWord row p i x
-    → ((j : ℕ) → j < i → (get_or r j 0 < 2 ^ 64) × PassedWord row p j (get_or r j 0))
-    → (j : ℕ) → j < i + 1 → (get_or (set r i x) j 0 < 2 ^ 64) × PassedWord row p j (get_or (set r i x) j 0)
-passed_more row r p i x e h small made sofar =
-    below_more (λ j. (get_or (set r i x) j 0 < 2 ^ 64) × PassedWord row p j (get_or (set r i x) j 0)) i
-    (λ j l.
-    subst (λ y. (y < 2 ^ 64) × PassedWord row p j y)
-    (sym (get_or-set_other r i j x 0 (λ e. let z : ⊥ = omega arith in z))) (sofar j l))
-    (subst (λ y. (y < 2 ^ 64) × PassedWord row p i y) (sym (get_or-set_same r i x 0 (omega arith))) (small, made))
-
 -- one pass more, at all 4096 bits
 pub truth_more : (f : Form most) (row r : List ℕ) (p : ℕ) → p < 12 → row ≡ pack most (passes most p f)
     → Passed row p r → r ≡ pack most (passes most (p + 1) f)
@@ -198,9 +178,8 @@ truth_done f r p h l e =
     (ap (λ k. passes most k f) (let q : p ≡ 12 = omega arith in q ∙ sym most_is) ∙ passes_truth most f)
 
 -- the truth values of a row with no term
-pub truth_none : (row : List ℕ) (k : ℕ) → Next row 0 4096 k → k ≡ 4096 → (f : Form most) → row ≡ pack most f
+pub truth_none : (row : List ℕ) → Free row 0 4096 → (f : Form most) → row ≡ pack most f
     → row ≡ pack most (truth most f)
-truth_none row k next end f e =
-    let none : f ≡ constant most false
-    = read_none most f row most_few e (λ l h. next.none l (omega arith) (omega arith)) in
+truth_none row free f e =
+    let none : f ≡ constant most false = read_none most f row most_few e (λ l h. free l (omega arith) h) in
     e ∙ ap (pack most) (none ∙ sym (ap (truth most) none ∙ truth_false most))

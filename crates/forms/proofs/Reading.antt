@@ -5,24 +5,25 @@ use mathlib.Core.Bool.{Bool, true, false, not, ◌&&◌, ◌||◌, cond, and-tru
 use mathlib.Core.Bool.{false≢true}
 use mathlib.Core.Logic.{⊎_elim}
 use mathlib.Core.List.{List}
-use Prim.Native.Nat.{ℕ, zero, suc, ◌+◌, ◌*◌, ◌^◌, ◌≤◌, ◌<◌}
+use Prim.Native.Nat.{ℕ, zero, suc, ◌+◌, ◌*◌, ◌%◌, ◌^◌, ◌≤◌, ◌<◌}
 use native.Mathlib.Numerals.{add-one}
 use native.Mathlib.Omega.{arith}
 use lib.Bits.{bit_or}
 use lib.Dec.{eqb, ltb}
 use lib.ListN.{length}
 use lib.Pow.{pow_mono, pow_pos}
-use borrow.Author.Tests.{lt-ltb, le-ltb, eq-eqb, ne_eqb, eqb-true, eqb-false}
-use Rattle.ground.specs.Fold.{◌⊕◌, fold, every, some}
+use borrow.Author.Tests.{lt-ltb, le-ltb, eq-eqb, ne_eqb}
+use Rattle.ground.specs.Fold.{◌⊕◌, fold, some}
 use Rattle.ground.specs.Bits.{bit, of_bits, bit_at, Words}
 use Rattle.ground.proofs.Xor.{⊕_false, ⊕_self}
-use Rattle.ground.proofs.Folds.{less_or_not, fold_cong, fold_skip, every_all, every_not, some_none}
-use Rattle.ground.proofs.Bits.{bit_or_lem, bit_zero}
+use Rattle.ground.proofs.Folds.{less_or_not, fold_cong, fold_skip, every_all, every_not}
+use Rattle.ground.proofs.Bits.{bit_or_lem, bit_zero, one_shl}
 use Rattle.ground.proofs.Numbers.{same_bits, of_bits_lt, bit_of_bits}
 use Rattle.forms.specs.Form.{Form, constant, parameter, xor, has, names, same}
 use Rattle.forms.specs.Words.{bit_of, pack, fits}
 use Rattle.forms.specs.Rows.{which_constant}
-use Rattle.forms.specs.inside.Steps.{Next, Only}
+use Rattle.std.specs.Prelude.{Option, None, Some, is_some}
+use Rattle.forms.specs.inside.Steps.{Free, First, Next, Only}
 use Rattle.forms.specs.declared.rows.Truth.TheVariants.{True, False, Open}
 use Rattle.forms.proofs.Values.{pairs}
 use Rattle.forms.proofs.Document.{bit_of_low, bit_of_high}
@@ -165,22 +166,19 @@ module _ (m : ℕ) (f : Form m) (row : List ℕ) (few : m ≤ 12) (e : row ≡ p
           (less_or_not p m)
 
   -- a term that is not the empty one
-  pub read_open : (k : ℕ) → Next row 1 4096 k → k < 4096 → Open ≡ which_constant m f
-  read_open k next h =
+  pub read_open : (k : ℕ) → First row 1 4096 k → Open ≡ which_constant m f
+  read_open k next =
       which_open m f
       (λ q.
       false≢true
-      (sym (ne_eqb 0 k (λ z. omega (arith, next.low (omega arith)))) ∙ sym (bit_of_true m k) ∙ has_it q))
+      (sym (ne_eqb 0 k (λ z. omega (arith, next.low))) ∙ sym (bit_of_true m k) ∙ has_it q))
       (λ q. false≢true (sym (bit_of_false m k) ∙ has_it q))
     where
       has_it : {g : Form m} → f ≡ g → bit_of m g k ≡ true
-      has_it q = ap (λ x. bit_of m x k) (sym q) ∙ sym (row_bit k h) ∙ next.here h
+      has_it q = ap (λ x. bit_of m x k) (sym q) ∙ sym (row_bit k next.high) ∙ next.here
 
   -- no term but perhaps the empty one
-  module _ (k : ℕ) (next : Next row 1 4096 k) (end : 4096 ≤ k) where
-    others : (l : ℕ) → 1 ≤ l → l < 4096 → bit_at row l ≡ false
-    others l a b = next.none l a (omega arith)
-
+  module _ (others : Free row 1 4096) where
     -- bits that are false from 1 on are the row's
     from_empty : (g : ℕ → Bool) → bit_at row 0 ≡ g 0 → ((l : ℕ) → g (suc l) ≡ false) → (l : ℕ) → l < 4096
         → bit_at row l ≡ g l
@@ -198,12 +196,13 @@ module _ (m : ℕ) (f : Form m) (row : List ℕ) (few : m ≤ 12) (e : row ≡ p
         }))
     read_constant false q = read_none (from_empty (λ _. false) q (λ _. refl))
 
-    pub read_true : (n : ℕ) → Next row 0 1 n → n < 1 → True ≡ which_constant m f
-    read_true n first h =
-        which_true m f (read_constant true (ap (bit_at row) (let z : 0 ≡ n = omega arith in z) ∙ first.here h))
+    pub read_true : (n : ℕ) → First row 0 1 n → True ≡ which_constant m f
+    read_true n first =
+        which_true m f
+        (read_constant true (ap (bit_at row) (let z : 0 ≡ n = omega (arith, first.high) in z) ∙ first.here))
 
-    pub read_false : (n : ℕ) → Next row 0 1 n → 1 ≤ n → False ≡ which_constant m f
-    read_false n first h = which_false m f (read_constant false (first.none 0 (omega arith) (omega arith)))
+    pub read_false : Free row 0 1 → False ≡ which_constant m f
+    read_false none = which_false m f (read_constant false (none 0 (omega arith) (omega arith)))
 
 -- every row of 64 words is one of a form over 12 parameters or more
 pub fits_wide : (m : ℕ) (ws : List ℕ) → length ws ≡ 64 → 12 ≤ m → true ≡ fits m ws
@@ -215,79 +214,79 @@ fits_wide m ws long wide =
     ap (λ b. b || not (bit_at ws k)) (lt-ltb k (2 ^ m) (omega arith))))
 
 -- whether a row fits is whether it has no term from 2 ^ m on
-pub fits_next : (m n : ℕ) (ws : List ℕ) (r : ℕ) → length ws ≡ 64 → m ≤ 12 → n ≡ 2 ^ m → Next ws n 4096 r
-    → eqb r 4096 ≡ fits m ws
-unfolding fits
-fits_next m n ws r long few start next = go (eqb r 4096) refl
-  where
-    each : (k : ℕ) → k < r → (ltb k (2 ^ m) || not (bit_at ws k)) ≡ true
-    each k h =
-        ⊎_elim (λ l. ap (λ b. b || not (bit_at ws k)) (lt-ltb k (2 ^ m) l))
-        (λ l. ap (λ b. ltb k (2 ^ m) || not b) (next.none k (omega arith) h) ∙ or-true (ltb k (2 ^ m)))
-        (less_or_not k (2 ^ m))
+module _ (m : ℕ) (ws : List ℕ) (long : length ws ≡ 64) (few : m ≤ 12) where
+  fits_none : Free ws (2 ^ m) 4096 → true ≡ fits m ws
+  unfolding fits
+  fits_none free =
+      sym (every_all (64 * length ws) (λ k. ltb k (2 ^ m) || not (bit_at ws k))
+      (λ k h.
+      ⊎_elim (λ l. ap (λ b. b || not (bit_at ws k)) (lt-ltb k (2 ^ m) l))
+      (λ l. ap (λ b. ltb k (2 ^ m) || not b) (free k l (omega (arith, long))) ∙ or-true (ltb k (2 ^ m)))
+      (less_or_not k (2 ^ m))))
 
-    go : (b : Bool) → eqb r 4096 ≡ b → eqb r 4096 ≡ every (64 * length ws) (λ k. ltb k (2 ^ m) || not (bit_at ws k))
-    go true e =
-        let end : r ≡ 4096 = eqb-true r 4096 e in
-        e
-        ∙ sym (every_all (64 * length ws) (λ k. ltb k (2 ^ m) || not (bit_at ws k))
-        (λ k h. each k (omega arith)))
-    go false e =
-        let other : r ≡ 4096 → ⊥ = eqb-false r 4096 e in
-        let less : r < 4096 = omega (arith, next.high) in
-        let from : 2 ^ m ≤ r = omega (arith, next.low (omega (arith, room m few))) in
-        e
-        ∙ sym (every_not (64 * length ws) (λ k. ltb k (2 ^ m) || not (bit_at ws k)) r (omega arith)
-        (ap₂ (λ a b. a || not b) (le-ltb r (2 ^ m) from) (next.here less)))
+  fits_not : (k : ℕ) → First ws (2 ^ m) 4096 k → false ≡ fits m ws
+  unfolding fits
+  fits_not k next =
+      sym (every_not (64 * length ws) (λ i. ltb i (2 ^ m) || not (bit_at ws i)) k (omega (arith, long, next.high))
+      (ap₂ (λ a b. a || not b) (le-ltb k (2 ^ m) next.low) next.here))
 
--- the union of the row's terms before k, where k is the next term or 4096
+  pub fits_next : (r : Option ℕ) (o : Bool) → Next ws ((1 * 2 ^ m) % 2 ^ 64) 4096 r → is_some r ≡ not o → o ≡ fits m ws
+  fits_next None true next e = fits_none (subst (λ n. Free ws n 4096) (one_shl m (omega arith)) next)
+  fits_next None false next e = absurd (false≢true e)
+  fits_next (Some k) true next e = absurd (false≢true (sym e))
+  fits_next (Some k) false next e = fits_not k (subst (λ n. First ws n 4096 k) (one_shl m (omega arith)) next)
+
+-- the union of the row's terms before k
 pub record Naming (row : List ℕ) (named k : ℕ) : Type 0 where
   pub small : named < 4096
   pub place : k ≤ 4096
-  pub here : k < 4096 → bit_at row k ≡ true
   pub bits : (j : ℕ) → bit named j ≡ some k (λ i. bit i j && bit_at row i)
 
--- no term yet
-pub naming_first : (row : List ℕ) (k : ℕ) → Next row 0 4096 k → Naming row 0 k
-naming_first row k next = record {
-  small = omega arith;
-  place = next.high;
-  here = next.here;
-  bits = λ j.
-      bit_zero j
-      ∙ sym (some_none k (λ i. bit i j && bit_at row i)
-      (λ i l. ap (λ b. bit i j && b) (next.none i (omega arith) l) ∙ and-false (bit i j)));
-}
-
--- one term more
-pub naming_more : (row : List ℕ) (named k k' : ℕ) → Naming row named k → k < 4096 → Next row (k + 1) 4096 k'
-    → Naming row (bit_or named k) k'
+-- no place yet
+pub naming_first : (row : List ℕ) (k : ℕ) → k ≡ 0 → Naming row 0 k
 unfolding fold
-naming_more row named k k' sofar less next = record {
-  small = union_lt named k sofar.small less;
-  place = next.high;
-  here = next.here;
-  bits = λ j.
-      bit_or_lem named k j
-      ∙ ap₂ ◌||◌ (sofar.bits j) (sym (ap (λ b. bit k j && b) (sofar.here less) ∙ and-true (bit k j)))
-      ∙ sym (fold_skip ◌||◌ false or-false k' (λ i. bit i j && bit_at row i) (suc k)
-      (subst (λ x. x ≤ k') (add-one k) (next.low (omega arith)))
-      (λ i a b. ap (λ y. bit i j && y) (next.none i (omega arith) b) ∙ and-false (bit i j)));
-}
+naming_first row k z =
+    subst (Naming row 0) (sym z) (record { small = omega arith; place = omega arith; bits = λ j. bit_zero j })
 
--- all terms: what the form names
-pub naming_done : (m : ℕ) (f : Form m) (row : List ℕ) (named k : ℕ) → m ≤ 12 → row ≡ pack m f → Naming row named k
-    → 4096 ≤ k → named ≡ of_bits 12 (names m f)
+-- places with no term name nothing
+unnamed : (row : List ℕ) (j k : ℕ) → j ≤ k → Free row j k → (p : ℕ)
+    → some k (λ i. bit i p && bit_at row i) ≡ some j (λ i. bit i p && bit_at row i)
+unnamed row j k h free p =
+    fold_skip ◌||◌ false or-false k (λ i. bit i p && bit_at row i) j h
+    (λ i a b. ap (λ y. bit i p && y) (free i a b) ∙ and-false (bit i p))
+
+-- the next term, and the places from `on` on are left
+pub naming_more : (row left : List ℕ) (named j k on : ℕ) → left ≡ row → Naming row named j
+    → First left j 4096 k × (on ≡ k + 1) → Naming row (bit_or named k) on
+unfolding fold
+naming_more row left named j k on same sofar gave =
+    let next : First row j 4096 k = subst (λ ws. First ws j 4096 k) same gave.0 in
+    subst (Naming row (bit_or named k)) (sym gave.1)
+    (record {
+      small = union_lt named k sofar.small next.high;
+      place = omega (arith, next.high);
+      bits = λ p.
+          bit_or_lem named k p
+          ∙ ap₂ ◌||◌ (sofar.bits p ∙ sym (unnamed row j k next.low next.none p))
+          (sym (ap (λ b. bit k p && b) next.here ∙ and-true (bit k p)))
+          ∙ ap (λ n. some n (λ i. bit i p && bit_at row i)) (sym (add-one k));
+    })
+
+-- no term is left: what the form names
+pub naming_done : (m : ℕ) (f : Form m) (row left : List ℕ) (named k : ℕ) → m ≤ 12 → row ≡ pack m f → left ≡ row
+    → Naming row named k → Free left k 4096 → named ≡ of_bits 12 (names m f)
 unfolding names
-naming_done m f row named k few e all end =
+naming_done m f row left named k few e same all none =
+    let free : Free row k 4096 = subst (λ ws. Free ws k 4096) same none in
     same_bits 12 named (of_bits 12 (names m f)) all.small (of_bits_lt 12 (names m f))
-    (λ j h. all.bits j ∙ through j ∙ sym (bit_of_bits 12 (names m f) j h))
+    (λ j h.
+    all.bits j ∙ sym (unnamed row k 4096 all.place free j) ∙ through j ∙ sym (bit_of_bits 12 (names m f) j h))
   where
-    through : (j : ℕ) → some k (λ i. bit i j && bit_at row i) ≡ some (2 ^ m) (λ i. bit i j && has m f (bit i))
+    through : (j : ℕ) → some 4096 (λ i. bit i j && bit_at row i) ≡ some (2 ^ m) (λ i. bit i j && has m f (bit i))
     through j =
-        fold_skip ◌||◌ false or-false k (λ i. bit i j && bit_at row i) (2 ^ m) (omega (arith, room m few))
+        fold_skip ◌||◌ false or-false 4096 (λ i. bit i j && bit_at row i) (2 ^ m) (omega (arith, room m few))
         (λ i a b.
-        ap (λ y. bit i j && y) (row_bit m f row few e i (omega (arith, all.place)) ∙ bit_of_high m f i a)
+        ap (λ y. bit i j && y) (row_bit m f row few e i b ∙ bit_of_high m f i a)
         ∙ and-false (bit i j))
         ∙ fold_cong ◌||◌ false (2 ^ m) (λ i. bit i j && bit_at row i) (λ i. bit i j && has m f (bit i))
         (λ i h. ap (λ y. bit i j && y) (row_bit m f row few e i (omega (arith, room m few)) ∙ bit_of_low m f i h))

@@ -7,13 +7,24 @@ use mathlib.Core.List.{List}
 use Prim.Native.Nat.{ℕ, ◌+◌, ◌-◌, ◌*◌, ◌/◌, ◌%◌, ◌^◌, ◌≤◌, ◌<◌}
 use native.Mathlib.Omega.{arith}
 use lib.ListN.{get_or}
-use lib.Pow.{pow-lt, pow_pos}
+use lib.Pow.{pow_pos}
 use borrow.Author.Tests.{eq-eqb, ne_eqb, eqb-true}
+use Rattle.std.specs.Prelude.{Option, None, Some, is_some, MatchOption}
 use Rattle.ground.specs.Bits.{bit, bit_at}
 use Rattle.ground.proofs.Folds.{less_or_not}
-use Rattle.forms.specs.inside.Steps.{Next, Only, Lone}
-use Rattle.ground.proofs.Bits.{bit_true, bit_false, bit_shr, bit_zero}
+use Rattle.forms.specs.inside.Steps.{Free, First, Next, Only, Lone}
+use Rattle.ground.proofs.Bits.{bit_true, bit_false, bit_shr, bit_zero, one_shl}
 use Rattle.forms.proofs.Packing.{term_room}
+
+-- what a look for a term found, and that it found none
+module _ (row : List ℕ) (from to : ℕ) where
+  pub seen : (r : Option ℕ) → true ≡ is_some r → Next row from to r → (k : ℕ) × First row from to k
+  seen None e m = absurd (false≢true (sym e))
+  seen (Some k) e m = (k, m)
+
+  pub unseen : (r : Option ℕ) → false ≡ is_some r → Next row from to r → Free row from to
+  unseen None e m = m
+  unseen (Some k) e m = absurd (false≢true e)
 
 -- what the code's test of bit k says
 pub bit_here : (row : List ℕ) (k : ℕ) → get_or row (k / 64) 0 / 2 ^ (k % 64) % 2 ≡ 1 → bit_at row k ≡ true
@@ -44,69 +55,53 @@ pub only_one : (P : ℕ → Type 0) (k : ℕ) → P k → (i : ℕ) → k ≤ i 
 only_one P k p i h l = let e : k ≡ i = omega arith in subst P e p
 
 -- a term among one bit is that bit
-pub next_alone : (row : List ℕ) (k end r : ℕ) → Next row k end r → (r ≡ end → ⊥) → end ≡ k + 1 → bit_at row k ≡ true
-next_alone row k end r next n e =
-    let l : r ≤ end = next.high in
-    let a : k ≤ r = next.low (omega arith) in
-    let q : r ≡ k = omega arith in
-    ap (bit_at row) (sym q) ∙ next.here (omega arith)
+pub first_alone : (row : List ℕ) (k end r : ℕ) → First row k end r → end ≡ k + 1 → bit_at row k ≡ true
+first_alone row k end r next e =
+    let q : r ≡ k = omega (arith, next.low, next.high) in ap (bit_at row) (sym q) ∙ next.here
 
--- a term is that of one parameter at most
-power_inj : (p q : ℕ) → 2 ^ p ≡ 2 ^ q → p ≡ q
-power_inj p q e =
-    ⊎_elim (λ l. let z : ⊥ = omega (arith, pow-lt l) in absurd z)
-    (λ l. ⊎_elim (λ u. let z : ⊥ = omega (arith, pow-lt u) in absurd z) (λ u. omega arith) (less_or_not q p))
-    (less_or_not p q)
+-- a row with no term but the empty one is that of no parameter
+pub lone_empty : (row : List ℕ) → Free row 1 4096 → (p : ℕ) → p < 12 → Only row (2 ^ p) → ⊥
+lone_empty row free p h only =
+    let t : ℕ = 2 ^ p in
+    false≢true (sym (free t (pow_pos p) (term_room p h)) ∙ only t (pow_pos p) (term_room p h) ∙ eq-eqb t t refl)
 
--- the first term from 1 on, and the second
-module _ (row : List ℕ) (k r : ℕ) (first : Next row 1 4096 k) (second : Next row (k + 1) 4096 r) where
+-- the first term from 1 on
+module _ (row : List ℕ) (k : ℕ) (first : First row 1 4096 k) where
   -- there is no second: the first is the only one
-  first_only : 4096 ≤ r → k < 4096 → Only row k
-  first_only end h l a b =
+  only_here : Free row (k + 1) 4096 → Only row k
+  only_here free l a b =
       ⊎_elim (λ s. first.none l a s ∙ sym (ne_eqb k l (λ q. omega arith)))
       (λ s.
-      ⊎_elim (λ u. second.none l (omega arith) (omega arith) ∙ sym (ne_eqb k l (λ q. omega arith)))
-      (λ u. let q : k ≡ l = omega arith in ap (bit_at row) (sym q) ∙ first.here h ∙ sym (eq-eqb k l q))
+      ⊎_elim (λ u. free l (omega arith) b ∙ sym (ne_eqb k l (λ q. omega arith)))
+      (λ u. let q : k ≡ l = omega arith in ap (bit_at row) (sym q) ∙ first.here ∙ sym (eq-eqb k l q))
       (less_or_not k l))
       (less_or_not l k)
 
-  -- the only one is the first, and there is no second
-  only_first : (t : ℕ) → 1 ≤ t → t < 4096 → Only row t → (k ≡ t) × (4096 ≤ r)
-  only_first t a h only = (sym at, ⊎_elim (λ l. absurd (two l)) (λ l. l) (less_or_not r 4096))
-    where
-      found : (l : ℕ) → 1 ≤ l → l < 4096 → bit_at row l ≡ true → t ≡ l
-      found l s b q = eqb-true t l (sym (only l s b) ∙ q)
+  -- the only one is the first
+  only_first : (t : ℕ) → Only row t → t ≡ k
+  only_first t only = eqb-true t k (sym (only k first.low first.high) ∙ first.here)
 
-      reached : k ≤ t
-      reached =
-          ⊎_elim
-          (λ l. absurd (false≢true (sym (first.none t a l) ∙ only t a h ∙ eq-eqb t t refl)))
-          (λ l. l) (less_or_not t k)
+  -- so with a second it is that of no parameter
+  pub lone_more : (r : ℕ) → First row (k + 1) 4096 r → (p : ℕ) → p < 12 → Only row (2 ^ p) → ⊥
+  lone_more r second p h only =
+      let a : 2 ^ p ≡ k = only_first (2 ^ p) only in
+      let b : 2 ^ p ≡ r
+      = eqb-true (2 ^ p) r (sym (only r (omega (arith, second.low)) second.high) ∙ second.here) in
+      omega (arith, second.low)
 
-      at : t ≡ k
-      at = let l : k < 4096 = omega (arith, reached) in found k (first.low (omega arith)) l (first.here l)
+  -- with none, it is that of the parameter whose term it is, negated or not, or of none
+  pub lone_here : Free row (k + 1) 4096 → (p : ℕ) → p < 12 → k ≡ 2 ^ p → Only row (2 ^ p)
+  lone_here free p h e = subst (Only row) e (only_here free)
 
-      two : r < 4096 → ⊥
-      two l =
-          let s : k + 1 ≤ r = second.low (omega (arith, reached)) in
-          let q : t ≡ r = found r (omega arith) l (second.here l) in
-          omega (arith, at)
+  pub lone_none : ((p : ℕ) → p < 12 → k ≡ 2 ^ p → ⊥) → (p : ℕ) → p < 12 → Only row (2 ^ p) → ⊥
+  lone_none other p h only = other p h (sym (only_first (2 ^ p) only))
 
-  -- so the row is that of a parameter, negated or not, or of none
-  pub lone_here : (p : ℕ) → p < 12 → 4096 ≤ r → k ≡ 2 ^ p → Lone row p
-  lone_here p h end e = record {
-    high = omega arith;
-    here = λ _. subst (Only row) e (first_only end (subst (λ x. x < 4096) (sym e) (term_room p h)));
-    all = λ q l only.
-        power_inj p q (sym e ∙ (only_first (2 ^ q) (pow_pos q) (term_room q l) only).0);
-  }
-
-  pub lone_none : ((p : ℕ) → p < 12 → k ≡ 2 ^ p → r < 4096) → Lone row 12
-  lone_none other = record {
-    high = omega arith;
-    here = λ h. let z : ⊥ = omega arith in absurd z;
-    all = λ p h only.
-        let both = only_first (2 ^ p) (pow_pos p) (term_room p h) only in
-        let z : ⊥ = omega (arith, other p h both.0, both.1) in
-        absurd z;
-  }
+  -- as the code looks for it, 1 << p being 2 ^ p
+  pub lone_found : (r : Option ℕ) → Free row (k + 1) 4096
+      → MatchOption r ((p : ℕ) → 0 ≤ p → p < 12 → k ≡ (1 * 2 ^ p) % 2 ^ 64 → ⊥)
+      (λ p. (0 ≤ p) × (p < 12) × (k ≡ (1 * 2 ^ p) % 2 ^ 64)
+      × ((q : ℕ) → 0 ≤ q → q < p → k ≡ (1 * 2 ^ q) % 2 ^ 64 → ⊥))
+      → Lone row r
+  lone_found None free none =
+      lone_none (λ p h e. none p (omega arith) h (e ∙ sym (one_shl p (omega arith))))
+  lone_found (Some p) free found = (found.1, lone_here free p found.1 (found.2 ∙ one_shl p (omega arith)))

@@ -18,7 +18,7 @@ use Rattle.forms.specs.Form.{Form, constant, parameter, xor, put_in, seen, value
 use Rattle.forms.specs.Words.{most, pack, unpack, of_terms}
 use Rattle.forms.specs.Area.{row_at, put_rows, form_in, Holds}
 use Rattle.forms.specs.Rows.{OfForm, OfRow, WithRows}
-use Rattle.forms.specs.inside.Steps.{Next, Lone, Tables, PutTerms, only_named, TableOf, TablesOf}
+use Rattle.forms.specs.inside.Steps.{Free, Only, Tables, PutTerms, only_named, TableOf, TablesOf}
 use Rattle.forms.proofs.Values.{value_agree, value_put_in, canonical}
 use Rattle.forms.proofs.Depends.{put_in_constant, put_in_parameter, put_in_xor, put_in_same}
 use Rattle.forms.proofs.Depends.{depends_names, names_depends}
@@ -28,17 +28,13 @@ use Rattle.forms.proofs.Packing.{pack_words, bit_pack, unpack_pack, pack_false}
 use Rattle.forms.proofs.Packing.{value_seen, pack_seen, most_is, most_few, most_wide}
 use Rattle.forms.proofs.Making.{negated_row}
 use Rattle.forms.proofs.Reading.{read_constant, read_parameter}
-use Rattle.forms.proofs.Areas.{row_put, row_kept, row_past}
+use Rattle.forms.proofs.Areas.{row_put, row_kept}
 
--- no row there, one past the area's end, and one in it
+-- no row there, and one
 pub row_none : (ws : List ℕ) (base count j : ℕ) → count ≤ j → OfRow ws base count j (replicate 64 0)
 row_none ws base count j h m rows holds =
     let past : length rows ≤ j = omega (arith, holds.long) in
     pack_false m ∙ ap (pack m) (sym (get_or-eq_default rows (constant m false) past))
-
-pub row_far : (ws : List ℕ) (base count j : ℕ) → j < count → length ws < base + j
-    → OfRow ws base count j (replicate 64 0)
-row_far ws base count j h l m rows holds = sym (row_past ws (base + j) (omega arith)) ∙ holds.row j h
 
 pub row_here : (ws : List ℕ) (base count j : ℕ) (r : List ℕ) → j < count → r ≡ row_at ws (base + j)
     → OfRow ws base count j r
@@ -159,22 +155,20 @@ put_rows_lem row v r ts ws base count named all tables put back m f rows few e h
     ∙ ap (pack most) (put_in_wider m few f rows) ∙ sym (pack_seen m most (put_in m m f (form_in m rows)) (fits m few))
 
 -- a constant stays
-pub put_constant : (row ws : List ℕ) (base count k : ℕ) → Next row 1 4096 k → k ≡ 4096
-    → WithRows row ws base count row
-put_constant row ws base count k next end m f rows few e holds =
-    let same : f ≡ constant m (bit_at row 0)
-    = read_constant m f row few e k next (omega arith) (bit_at row 0) refl in
+pub put_constant : (row ws : List ℕ) (base count : ℕ) → Free row 1 4096 → WithRows row ws base count row
+put_constant row ws base count free m f rows few e holds =
+    let same : f ≡ constant m (bit_at row 0) = read_constant m f row few e free (bit_at row 0) refl in
     e
     ∙ ap (pack m)
     (same ∙ sym (ap (λ g. put_in m m g (form_in m rows)) same ∙ put_in_constant m m (bit_at row 0) (form_in m rows)))
 
 -- a parameter is the row put in for it, and its negation that row's
-pub put_lone : (row ws r : List ℕ) (base count p : ℕ) → Lone row p → p < 12 → OfRow ws base count p r
+pub put_lone : (row ws r : List ℕ) (base count p : ℕ) → (p < 12) × Only row (2 ^ p) → OfRow ws base count p r
     → WithRows row ws base count (set r 0 (bit_xor (get_or r 0 0) (get_or row 0 0 % 2)))
 unfolding bit_at
-put_lone row ws r base count p lone h at m f rows few e holds =
+put_lone row ws r base count p lone at m f rows few e holds =
     let σ : ℕ → Form m = form_in m rows in
-    let same = read_parameter m f row few e p h (lone.here h) in
+    let same = read_parameter m f row few e p lone.0 lone.1 in
     negated_row m (σ p) r (get_or row 0 0) (at m rows holds)
     ∙ ap (pack m)
     (sym (ap (λ g. put_in m m g σ) same.1 ∙ put_in_xor m m (parameter m p) (constant m (bit_at row 0)) σ

@@ -4,18 +4,16 @@ ghost use Rattle.ground.specs.Bits.{Words};
 ghost use Rattle.forms.specs.inside.Steps.{Joined};
 ghost use Rattle.forms.specs.Clauses.{AndClause};
 
-use crate::scan::next_term;
+use crate::scan::Terms;
 
 // Term i with each term of b, added to r: the union of the two is turned over.
 fn join_term(r: &mut [u64; 64], b: &[u64; 64], i: usize)
     requires { (i < 4096) × Words 64 r.old }
     ensures { Joined r.old b.now i r.new }
 {
-    let mut j = next_term(b, 0, 4096);
-    while j < 4096 {
+    for j in Terms::of(b) {
         let k = i | j;
-        r[k / 64] = r[k / 64] ^ (1 << (k % 64));
-        j = next_term(b, j + 1, 4096);
+        r[k / 64] ^= 1 << (k % 64);
     }
 }
 
@@ -23,11 +21,9 @@ fn join_term(r: &mut [u64; 64], b: &[u64; 64], i: usize)
 pub fn and(a: [u64; 64], b: [u64; 64]) -> [u64; 64]
     ensures { AndClause a b result }
 {
-    let mut r = [0u64; 64];
-    let mut i = next_term(&a, 0, 4096);
-    while i < 4096 {
+    let mut r = [0; 64];
+    for i in Terms::of(&a) {
         join_term(&mut r, &b, i);
-        i = next_term(&a, i + 1, 4096);
     }
     r
 }

@@ -5,7 +5,8 @@ ghost use Rattle.forms.specs.Clauses.{ConstantClause, ParameterClause, XorClause
 ghost use Rattle.forms.specs.Clauses.{WhichConstantClause, FitsClause, NamesClause};
 
 use crate::join::and;
-use crate::scan::next_term;
+use crate::scan::{Terms, next_term};
+use std::array;
 
 // Which constant a form is, if any.
 #[derive(Clone, Copy)]
@@ -20,7 +21,7 @@ fn alone(k: usize) -> [u64; 64]
     requires { k < 4096 }
     ensures { Alone k result }
 {
-    let mut r = [0u64; 64];
+    let mut r = [0; 64];
     r[k / 64] = 1 << (k % 64);
     r
 }
@@ -29,30 +30,25 @@ fn alone(k: usize) -> [u64; 64]
 pub fn constant(b: bool) -> [u64; 64]
     ensures { ConstantClause b result }
 {
-    if b { alone(0) } else { [0u64; 64] }
+    if b { alone(0) } else { [0; 64] }
 }
 
 // The row of parameter p of m; a row has room for the first 12.
 pub fn parameter(p: usize, m: usize) -> [u64; 64]
     ensures { ParameterClause p m result }
 {
-    if p < m {
-        if p < 12 {
-            return alone(1 << p);
-        }
+    if p < m && p < 12 {
+        alone(1 << p)
+    } else {
+        [0; 64]
     }
-    [0u64; 64]
 }
 
 // The row of the exclusive or: the terms of one row but not of the other.
 pub fn xor(a: [u64; 64], b: [u64; 64]) -> [u64; 64]
     ensures { XorClause a b result }
 {
-    let mut r = [0u64; 64];
-    for i in 0..64 {
-        r[i] = a[i] ^ b[i];
-    }
-    r
+    array::from_fn(|i| a[i] ^ b[i])
 }
 
 // The row of the disjunction: "a or b" is a xor b xor (a and b).
@@ -68,36 +64,30 @@ pub fn or(a: [u64; 64], b: [u64; 64]) -> [u64; 64]
 pub fn which_constant(row: [u64; 64]) -> Truth
     ensures { WhichConstantClause row result }
 {
-    let other = next_term(&row, 1, 4096);
-    if other < 4096 {
+    if next_term(&row, 1, 4096).is_some() {
         return Truth::Open;
     }
-    let empty = next_term(&row, 0, 1);
-    if empty < 1 {
-        return Truth::True;
+    if next_term(&row, 0, 1).is_some() {
+        Truth::True
+    } else {
+        Truth::False
     }
-    Truth::False
 }
 
 // Whether the row is one of a form over m parameters: it has no term from 2^m on.
 pub fn fits(row: [u64; 64], m: usize) -> bool
     ensures { FitsClause row m result }
 {
-    if m >= 12 {
-        return true;
-    }
-    next_term(&row, 1 << m, 4096) == 4096
+    m >= 12 || next_term(&row, 1 << m, 4096).is_none()
 }
 
 // The parameters that the row's form names: bit j is set where a term has parameter j.
 pub fn names(row: [u64; 64]) -> usize
     ensures { NamesClause row result }
 {
-    let mut named: usize = 0;
-    let mut k = next_term(&row, 0, 4096);
-    while k < 4096 {
-        named = named | k;
-        k = next_term(&row, k + 1, 4096);
+    let mut named = 0;
+    for k in Terms::of(&row) {
+        named |= k;
     }
     named
 }

@@ -10,6 +10,7 @@ ghost use Rattle.forms.specs.Clauses.{PutInClause, ValueClause};
 use crate::area::{row_of, store};
 use crate::rows::names;
 use crate::scan::{lone, next_term};
+use std::array;
 
 // The bits of a word whose number lacks parameter p.
 const MASKS: [u64; 6] = [
@@ -43,11 +44,7 @@ fn pass(row: [u64; 64], p: usize) -> [u64; 64]
     requires { p < 12 }
     ensures { Passed row p result }
 {
-    let mut r = [0u64; 64];
-    for i in 0..64 {
-        r[i] = pass_word(&row, p, i);
-    }
-    r
+    array::from_fn(|i| pass_word(&row, p, i))
 }
 
 // The truth values of the row's form: bit s is its value where exactly the parameters of s are true.
@@ -55,13 +52,14 @@ pub(crate) fn truth_of(row: [u64; 64]) -> [u64; 64]
     ensures { (f : Form most) → row ≡ pack most f → result ≡ pack most (truth most f) }
 {
     // False is true nowhere.
-    if next_term(&row, 0, 4096) == 4096 {
+    if next_term(&row, 0, 4096).is_none() {
         return row;
     }
     let mut r = row;
     for p in 0..12 {
-        let s = pass(r, p);
-        r = s;
+        // This stays two steps: the check has no proof for `r = pass(r, p)`.
+        let passed = pass(r, p);
+        r = passed;
     }
     r
 }
@@ -71,11 +69,7 @@ fn mix(a: [u64; 64], tables: &[u64; 768], q: usize, b: [u64; 64]) -> [u64; 64]
     requires { q < 12 }
     ensures { Mixed a (row_at tables.now q) b result }
 {
-    let mut r = [0u64; 64];
-    for i in 0..64 {
-        r[i] = a[i] ^ (tables[64 * q + i] & b[i]);
-    }
-    r
+    array::from_fn(|i| a[i] ^ (tables[64 * q + i] & b[i]))
 }
 
 // The truth values of the form of the row's 2^p bits from k on, with the forms whose truth values are given put in.
@@ -83,18 +77,16 @@ fn put_terms(row: &[u64; 64], tables: &[u64; 768], p: usize, k: usize) -> [u64; 
     requires { (p ≤ 12) × (k + 2 ^ p ≤ 4096) }
     ensures { PutTerms row.now tables.now p k result }
 {
-    let size: usize = 1 << p;
-    let end = k + size;
-    if next_term(row, k, end) == end {
-        return [0u64; 64];
+    let end = k + (1 << p);
+    if next_term(row, k, end).is_none() {
+        return [0; 64];
     }
     if p == 0 {
-        return [0xFFFF_FFFF_FFFF_FFFF; 64];
+        return [u64::MAX; 64];
     }
     let q = p - 1;
-    let half: usize = 1 << q;
     let a = put_terms(row, tables, q, k);
-    let b = put_terms(row, tables, q, k + half);
+    let b = put_terms(row, tables, q, k + (1 << q));
     mix(a, tables, q, b)
 }
 
@@ -104,7 +96,7 @@ fn table_at(area: &[u64], base: usize, count: usize, named: usize, j: usize) -> 
     ensures { TableOf area.now base count named j result }
 {
     if (named >> j) % 2 == 0 {
-        return [0u64; 64];
+        return [0; 64];
     }
     truth_of(row_of(area, base, count, j))
 }
@@ -113,7 +105,7 @@ fn table_at(area: &[u64], base: usize, count: usize, named: usize, j: usize) -> 
 fn tables(area: &[u64], base: usize, count: usize, named: usize) -> [u64; 768]
     ensures { TablesOf area.now base count named result }
 {
-    let mut ts = [0u64; 768];
+    let mut ts = [0; 768];
     for j in 0..12 {
         let t = table_at(area, base, count, named, j);
         store(&mut ts, j, t);
@@ -135,13 +127,12 @@ pub fn put_in(row: [u64; 64], area: &[u64], base: usize, count: usize) -> [u64; 
     ensures { PutInClause row area.now base count result }
 {
     // A constant stays, and a parameter is the row put in for it, negated or not: most calls need no truth values.
-    if next_term(&row, 1, 4096) == 4096 {
+    if next_term(&row, 1, 4096).is_none() {
         return row;
     }
-    let p = lone(&row);
-    if p < 12 {
+    if let Some(p) = lone(&row) {
         let mut r = row_of(area, base, count, p);
-        r[0] = r[0] ^ (row[0] % 2);
+        r[0] ^= row[0] % 2;
         return r;
     }
     put_by_values(row, area, base, count)

@@ -4,7 +4,7 @@ use mathlib.Core.Path.{◌≡◌, sym, ◌∙◌}
 use mathlib.Core.Bool.{Bool}
 use mathlib.Core.List.{List}
 use Prim.Native.Nat.{ℕ}
-use Rattle.ground.specs.Clauses.{ByteClause, TwoClause, FourClause, ZerosFromClause}
+use Rattle.ground.specs.Clauses.{ByteClause, LittleClause, ZerosFromClause}
 
 -- so does any equation, outcome ≡ definition
 pub only_one : {A : Type 0} (definition r r' : A) → r ≡ definition → r' ≡ definition → r ≡ r'
@@ -14,11 +14,8 @@ module _ (bytes : List ℕ) (at : ℕ) where
   pub only_byte : (o o' : ℕ) → ByteClause bytes at o → ByteClause bytes at o' → o ≡ o'
   only_byte = only_one _
 
-  pub only_two : (o o' : ℕ) → TwoClause bytes at o → TwoClause bytes at o' → o ≡ o'
-  only_two = only_one _
-
-  pub only_four : (o o' : ℕ) → FourClause bytes at o → FourClause bytes at o' → o ≡ o'
-  only_four = only_one _
+  pub only_little : (n o o' : ℕ) → LittleClause n bytes at o → LittleClause n bytes at o' → o ≡ o'
+  only_little n = only_one _
 
   pub only_zeros_from : (o o' : Bool) → ZerosFromClause bytes at o → ZerosFromClause bytes at o' → o ≡ o'
   only_zeros_from = only_one _

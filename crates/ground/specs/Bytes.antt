@@ -1,6 +1,6 @@
 -- Bytes as numbers, lowest first, and zeros behind a prefix.
-use Rattle.std.specs.Prelude.{Bool, ◌||◌, List, ℕ, zero, suc, ◌+◌, ◌*◌, eqb, ltb, length, get_or}
-use Rattle.ground.specs.Fold.{every}
+use Rattle.std.specs.Prelude.{Bool, List, ℕ, zero, suc, ◌+◌, ◌*◌, ◌==◌, drop, get_or}
+use Rattle.std.specs.List.{list_all}
 
 -- the number of the n bytes from `at` on, lowest first, with zeros past the end
 unfoldable pub little : List ℕ → ℕ → ℕ → ℕ
@@ -8,5 +8,5 @@ little bytes at zero = 0
 little bytes at (suc n) = get_or bytes at 0 + 256 * little bytes (at + 1) n
 
 -- every byte from `from` on is zero
-unfoldable pub zeros_from : List ℕ → ℕ → Bool
-zeros_from bytes from = every (length bytes) (λ i. ltb i from || eqb (get_or bytes i 0) 0)
+abbrev pub zeros_from : List ℕ → ℕ → Bool
+zeros_from bytes from = list_all (λ byte. byte == 0) (drop from bytes)

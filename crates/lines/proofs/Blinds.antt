@@ -1,36 +1,34 @@
--- Laws of the text of signals that have no reading.
+-- Laws of signals that have no reading.
 -- Assumes nothing.
-use mathlib.Core.Path.{◌≡◌, sym, ap, ◌∙◌}
-use mathlib.Core.Bool.{Bool, true, false, cond}
-use mathlib.Core.List.{List, [], ◌∷◌, ◌++◌}
-use Prim.Native.Nat.{ℕ}
-use Rattle.ground.specs.Fold.{some}
+use mathlib.Core.Path.{◌≡◌, refl, ap, ap₂, ◌∙◌}
+use mathlib.Core.Bool.{Bool, ◌||◌, or-false}
+use mathlib.Core.List.{[], ◌∷◌, ◌++◌}
+use Prim.Native.Nat.{ℕ, zero, suc, ◌+◌}
+use native.Mathlib.Nat.{zero-add}
+use native.Mathlib.Omega.{arith}
+use denote.Enum.Bare.{sameb}
+use Rattle.std.specs.List.{list_any, range_with_len}
+use Rattle.std.proofs.lemmas.List.Folds.{list_any-append}
+use Rattle.ground.specs.Fold.{fold, some}
 use Rattle.watcher.specs.declared.readings.Tested.{Tested}
-use Rattle.watcher.specs.Limits.{most_signals}
-use Rattle.watcher.specs.Records.{test_of}
-use Rattle.lines.specs.Text.{space, numbers_text}
-use Rattle.lines.specs.Blind.{no_reading, is_blind, blind_text}
-use Rattle.lines.specs.inside.Puts.{put_text}
-use Rattle.lines.proofs.Texts.{text_then, same_text}
+use Rattle.watcher.specs.declared.readings.Tested.TheVariants.{Holds, DoesNotHold, NoReading}
+use Rattle.watcher.specs.contracts.readings.Tested.{the_type}
+use Rattle.lines.specs.Blind.{no_reading}
 
--- what a test answered, by its case
-pub blind_case : (list : List ℕ) (signals : ℕ) (piece : List ℕ) (n : ℕ) (o t : Tested)
-    → o ≡ test_of list signals piece n → o ≡ t → no_reading t ≡ is_blind list signals piece n
-unfolding is_blind
-blind_case list signals piece n o t e case = ap no_reading (sym case ∙ e)
+pub blind_eq : (t : Tested) → sameb the_type t NoReading ≡ no_reading t
+blind_eq Holds = refl
+blind_eq DoesNotHold = refl
+blind_eq NoReading = refl
 
--- some signal is blind, and none
-module _ (blind : ℕ → Bool) (o : ℕ × List ℕ) (b : Bool) (known : b ≡ some most_signals blind) where
-  abbrev text_if : Bool → List ℕ
-  text_if b = cond b ((space ∷ 98 ∷ 108 ∷ 105 ∷ 110 ∷ 100 ∷ space ∷ []) ++ numbers_text blind most_signals) []
+range_more : (a n : ℕ) → range_with_len a (suc n) ≡ range_with_len a n ++ ((a + n) ∷ [])
+range_more a zero = ap (λ m. m ∷ []) (omega arith)
+range_more a (suc n) =
+    ap (λ l. a ∷ l) (range_more (a + 1) n ∙ ap (λ m. range_with_len (a + 1) n ++ (m ∷ [])) (omega arith))
 
-  pub blind_some : (p q : ℕ × List ℕ) → b ≡ true → p ≡ put_text o (space ∷ 98 ∷ 108 ∷ 105 ∷ 110 ∷ 100 ∷ space ∷ [])
-      → q ≡ put_text p (numbers_text blind most_signals) → q ≡ put_text o (blind_text blind)
-  unfolding blind_text
-  blind_some p q e h l =
-      same_text text_if (some most_signals blind) true o q (sym known ∙ e)
-      (text_then o p q _ (numbers_text blind most_signals) h l)
-
-  pub blind_none : b ≡ false → o ≡ put_text o (blind_text blind)
-  unfolding blind_text put_text
-  blind_none e = sym (ap (λ x. put_text o (text_if x)) (sym known ∙ e))
+-- a test passes at some number of a range, said in two ways
+pub any_some : (test : ℕ → Bool) (n : ℕ) → list_any test (range_with_len 0 n) ≡ some n test
+unfolding fold
+any_some test zero = refl
+any_some test (suc n) =
+    ap (list_any test) (range_more 0 n) ∙ list_any-append test (range_with_len 0 n) ((0 + n) ∷ [])
+    ∙ ap₂ ◌||◌ (any_some test n) (or-false (test (0 + n)) ∙ ap test (zero-add n))

@@ -1,5 +1,6 @@
 -- No line has more bytes than the buffer that the program lends.
 -- Assumes nothing.
+use Rattle.std.proofs.Common.{Ok, Err}
 use mathlib.Core.Path.{◌≡◌, refl}
 use mathlib.Core.Bool.{Bool, true, false, cond}
 use mathlib.Core.Logic.{◌⊎◌, inl, inr}
@@ -18,13 +19,8 @@ use Rattle.watcher.specs.declared.state.Word.{Word}
 use Rattle.watcher.specs.declared.state.Word.TheVariants as word
 use Rattle.watcher.specs.declared.state.Verdict.{Verdict}
 use Rattle.watcher.specs.declared.state.Refusal.{Refusal}
-use Rattle.watcher.specs.declared.state.Found.{Found}
-use Rattle.watcher.specs.declared.state.Found.TheVariants as found
+use Rattle.watcher.specs.Answers.{Found, Answer, End}
 use Rattle.watcher.specs.declared.state.Fed.{Fed}
-use Rattle.watcher.specs.declared.state.Answer.{Answer}
-use Rattle.watcher.specs.declared.state.Answer.TheVariants as answer
-use Rattle.watcher.specs.declared.state.End.{End}
-use Rattle.watcher.specs.declared.state.End.TheVariants as end
 use Rattle.watcher.specs.Numbers.{refusal_number}
 use Rattle.watcher.specs.Limits.{most_signals}
 use Rattle.watcher.specs.Records.{time_of}
@@ -80,8 +76,8 @@ time_short piece h = decimal_short 9 _ (lt_of_lt_of_le (little_lt piece 0 4 h) (
 -- what stands behind a word
 ask_short : (e : End) → length (ask_text e) ≤ 12
 unfolding ask_text
-ask_short (end.Closed v) = omega (arith, verdict_short v)
-ask_short (end.Refused r) = lit≤ tt
+ask_short (Ok v) = omega (arith, verdict_short v)
+ask_short (Err r) = lit≤ tt
 
 -- of the numbers below n, those below 10 have a comma and a digit at most, the others a digit more
 numbers_short : (test : ℕ → Bool) (n : ℕ) → n ≤ 100 → length (numbers_text test n) ≤ 2 * n + (n - 10)
@@ -141,13 +137,13 @@ refused_short r =
 -- the lines
 pub found_fits : (f : Found) → length (found_line f) ≤ line_bytes
 unfolding found_line
-found_fits found.Fine = lit≤ tt
-found_fits (found.Refused r) = omega (arith, refused_short r)
+found_fits (Ok tt) = lit≤ tt
+found_fits (Err r) = omega (arith, refused_short r)
 
 answer_fits : (piece : List ℕ) → ((i : ℕ) → get_or piece i 0 < 256) → (behind : List ℕ)
     → length behind ≤ 57 → (a : Answer) → length (answer_line (time_of piece) behind a) ≤ line_bytes
 unfolding answer_line told_line
-answer_fits piece h behind s (answer.Accepted report) =
+answer_fits piece h behind s (Ok report) =
     omega (
       arith,
       length-append (decimal (time_of piece)) (space ∷ (word_text report.word ++ (behind ++ (newline ∷ [])))),
@@ -156,7 +152,7 @@ answer_fits piece h behind s (answer.Accepted report) =
       word_short report.word,
       length-append behind (newline ∷ []),
     )
-answer_fits piece h behind s (answer.Refused r) = omega (arith, refused_short r)
+answer_fits piece h behind s (Err r) = omega (arith, refused_short r)
 
 pub piece_fits : (piece : List ℕ) → ((i : ℕ) → get_or piece i 0 < 256) → (more : Bool) (f : Fed × List ℕ)
     → length (piece_line piece more f) ≤ line_bytes
@@ -165,8 +161,8 @@ piece_fits piece h more f = answer_fits piece h _ (behind_short piece more f.0.n
 
 end_short : (e : End) → length (end_text e) ≤ 11
 unfolding end_text
-end_short (end.Closed v) = omega (arith, length-append (verdict_text v) (newline ∷ []), verdict_short v)
-end_short (end.Refused r) = refused_short r
+end_short (Ok v) = omega (arith, length-append (verdict_text v) (newline ∷ []), verdict_short v)
+end_short (Err r) = refused_short r
 
 pub end_fits : (e : End) → length (end_line e) ≤ line_bytes
 unfolding end_line

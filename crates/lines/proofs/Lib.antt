@@ -1,10 +1,8 @@
 pub mod Texts
 pub mod Numbers
 pub mod Blinds
-pub mod BlindExamples
-pub mod Turned
-pub mod RowLaws
 pub mod OnlyOne
 pub mod Lengths
 pub mod Listed
 pub mod Decimals
+pub mod BlindExamples

@@ -1,7 +1,8 @@
 -- The lines of the functions, called one after another, are the listing of the whole run.
 -- Assumes nothing.
+use Rattle.std.proofs.Common.{Ok, Err, is_ok, is_err}
 use mathlib.Core.Path.{◌≡◌, refl, ap, ap₂, ◌∙◌}
-use mathlib.Core.Bool.{Bool, true, false, not, cond}
+use mathlib.Core.Bool.{Bool, cond}
 use mathlib.Core.List.{List, [], ◌∷◌, ◌++◌}
 use Prim.Native.Nat.{ℕ, zero, suc, min, ◌≤◌, ◌<◌}
 use native.Mathlib.Omega.{arith}
@@ -9,8 +10,8 @@ use lib.ListN.{length, get_or, take, drop}
 use lib.Seq.{take_all, take_at}
 use Rattle.watcher.specs.declared.state.Watcher.{Watcher}
 use Rattle.watcher.specs.declared.state.Started.{Started}
+use Rattle.watcher.specs.Answers.{Found}
 use Rattle.watcher.specs.Limits.{log_bytes}
-use Rattle.watcher.specs.State.{is_refused}
 use Rattle.watcher.specs.Calls.{start_of, feed_of, ask_of}
 use Rattle.lines.specs.Text.{found_line, end_line}
 use Rattle.lines.specs.Lines.{placed, piece_line, started_line, start_line, fed_line, feed_line, ask_line}
@@ -65,13 +66,13 @@ module _ (more : Bool) (out : List ℕ) (room : line_bytes ≤ length out) where
   from_printed s log h =
       ap₂ ◌++◌
       (read_back out (found_line s.0.found) (omega (arith, found_fits s.0.found)))
-      (go (is_refused s.0.found))
+      (go s.0.found)
     where
-      go : (b : Bool)
-          → cond (not b) (printed_log more s.0.next s.1 out (pieces_in (length log) log)) []
-          ≡ cond b [] (log_lines more s.0.next s.1 (pieces_in (length log) log))
-      go true = refl
-      go false = log_printed s.0.next s.1 (pieces_in (length log) log) (pieces_bytes (length log) log h)
+      go : (f : Found)
+          → cond (is_ok f) (printed_log more s.0.next s.1 out (pieces_in (length log) log)) []
+          ≡ cond (is_err f) [] (log_lines more s.0.next s.1 (pieces_in (length log) log))
+      go (Err r) = refl
+      go (Ok tt) = log_printed s.0.next s.1 (pieces_in (length log) log) (pieces_bytes (length log) log h)
 
   -- for any area, rule and signal list, and any log of bytes
   pub printed_listing : (ws rule signals log : List ℕ) → Bytes log

@@ -1,10 +1,9 @@
 -- What each function answers: the text of a line in a lent buffer, and how many bytes it has there.
-use Rattle.std.specs.Prelude.{Bool, true, false, not, List, [], ◌++◌, ℕ, min, length, take, drop}
+use Rattle.std.specs.Prelude.{Bool, true, false, List, [], ◌++◌, ℕ, min, length, take, drop, is_ok}
 use Rattle.watcher.specs.declared.state.Watcher.{Watcher}
 use Rattle.watcher.specs.declared.state.Started.{Started}
 use Rattle.watcher.specs.declared.state.Fed.{Fed}
 use Rattle.watcher.specs.Records.{time_of}
-use Rattle.watcher.specs.State.{is_refused}
 use Rattle.watcher.specs.Calls.{start_of, feed_of, ask_of}
 use Rattle.lines.specs.declared.turns.Opened.{Opened}
 use Rattle.lines.specs.declared.turns.Turn.{Turn}
@@ -19,7 +18,7 @@ placed out text = (min (length text) (length out), take (length out) text ++ dro
 unfoldable pub started_line : (out : List ℕ) → Started × List ℕ → Opened × List ℕ × List ℕ
 started_line out s =
     let line : ℕ × List ℕ = placed out (found_line s.0.found) in (
-      record { next = s.0.next; ready = not (is_refused s.0.found); length = line.0 },
+      record { next = s.0.next; ready = is_ok s.0.found; length = line.0 },
       s.1,
       line.1,
     )

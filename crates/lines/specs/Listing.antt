@@ -1,9 +1,8 @@
 -- What the watching program prints for a rule, a signal list and a log, all in bytes.
-use Rattle.std.specs.Prelude.{Bool, cond, List, [], ◌∷◌, ◌++◌, ℕ, take, replicate}
+use Rattle.std.specs.Prelude.{Bool, cond, List, [], ◌∷◌, ◌++◌, ℕ, take, replicate, is_err}
 use Rattle.watcher.specs.declared.state.Watcher.{Watcher}
 use Rattle.watcher.specs.declared.state.Started.{Started}
 use Rattle.watcher.specs.Limits.{area_words}
-use Rattle.watcher.specs.State.{is_refused}
 use Rattle.watcher.specs.Calls.{start_of, feed_of, close_of}
 use Rattle.watcher.specs.Runs.{pieces}
 use Rattle.lines.specs.Text.{found_line, end_line}
@@ -19,7 +18,7 @@ log_lines more w ws (piece ∷ rest) =
 -- a refused start prints one line only
 unfoldable pub listing_from : (more : Bool) → Started × List ℕ → (log : List ℕ) → List ℕ
 listing_from more s log =
-    found_line s.0.found ++ cond (is_refused s.0.found) [] (log_lines more s.0.next s.1 (pieces log))
+    found_line s.0.found ++ cond (is_err s.0.found) [] (log_lines more s.0.next s.1 (pieces log))
 
 unfoldable pub listing_on : (more : Bool) (ws rule signals log : List ℕ) → List ℕ
 listing_on more ws rule signals log = listing_from more (start_of rule signals ws) log

@@ -1,16 +1,11 @@
 -- The lines that the programs print (document 01, "The watching program"), as ASCII bytes.
-use Rattle.std.specs.Prelude.{Bool, true, false, cond, List, [], ◌∷◌, ◌++◌, ℕ, zero, suc, ◌+◌, ◌/◌, ◌%◌, ltb}
+use Rattle.std.specs.Prelude.{Bool, true, false, cond, List, [], ◌∷◌, ◌++◌, ℕ, zero, suc, ◌+◌, ◌/◌, ◌%◌, ltb, Ok, Err}
 use Rattle.ground.specs.Fold.{some}
 use Rattle.watcher.specs.declared.state.Word.{Word}
 use Rattle.watcher.specs.declared.state.Word.TheVariants as word
 use Rattle.watcher.specs.declared.state.Verdict.{Verdict}
 use Rattle.watcher.specs.declared.state.Refusal.{Refusal}
-use Rattle.watcher.specs.declared.state.Found.{Found}
-use Rattle.watcher.specs.declared.state.Found.TheVariants as found
-use Rattle.watcher.specs.declared.state.Answer.{Answer}
-use Rattle.watcher.specs.declared.state.Answer.TheVariants as answer
-use Rattle.watcher.specs.declared.state.End.{End}
-use Rattle.watcher.specs.declared.state.End.TheVariants as end
+use Rattle.watcher.specs.Answers.{Found, Answer, End}
 use Rattle.watcher.specs.Numbers.{verdict_value, refusal_number, decided}
 
 -- the last digits of a number, as many as it has and no more than so many: the last stands last
@@ -57,26 +52,26 @@ refused_line r =
 
 -- a refused start prints one such line, and an accepted one nothing
 unfoldable pub found_line : Found → List ℕ
-found_line found.Fine = []
-found_line (found.Refused r) = refused_line r
+found_line (Ok tt) = []
+found_line (Err r) = refused_line r
 
 -- a record's time, a space, the word and what stands behind it; or its refusal
 unfoldable pub told_line : (time : ℕ) → Word → (behind : List ℕ) → List ℕ
 told_line time w behind = decimal time ++ ((space ∷ []) ++ (word_text w ++ (behind ++ (newline ∷ []))))
 
 unfoldable pub answer_line : (time : ℕ) (behind : List ℕ) → Answer → List ℕ
-answer_line time behind (answer.Accepted report) = told_line time report.word behind
-answer_line time behind (answer.Refused r) = refused_line r
+answer_line time behind (Ok report) = told_line time report.word behind
+answer_line time behind (Err r) = refused_line r
 
 -- behind a word: a space, "ask", a space and the verdict; nothing where asking is refused
 unfoldable pub ask_text : End → List ℕ
-ask_text (end.Closed v) = (space ∷ 97 ∷ 115 ∷ 107 ∷ space ∷ []) ++ verdict_text v
-ask_text (end.Refused r) = []
+ask_text (Ok v) = (space ∷ 97 ∷ 115 ∷ 107 ∷ space ∷ []) ++ verdict_text v
+ask_text (Err r) = []
 
 -- "end", a space and the verdict; or the refusal
 unfoldable pub end_text : End → List ℕ
-end_text (end.Closed v) = verdict_text v ++ (newline ∷ [])
-end_text (end.Refused r) = refused_line r
+end_text (Ok v) = verdict_text v ++ (newline ∷ [])
+end_text (Err r) = refused_line r
 
 unfoldable pub end_line : End → List ℕ
 end_line e = (101 ∷ 110 ∷ 100 ∷ space ∷ []) ++ end_text e

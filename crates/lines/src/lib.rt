@@ -2,6 +2,7 @@
 #![tactic(auto)]
 
 mod blind;
+mod line;
 mod records;
 pub mod rows;
 mod text;

@@ -1,12 +1,12 @@
 // The lines of the rows of a work area.
 ghost use Rattle.std.specs.Prelude.{◌≡◌, ◌<◌};
 ghost use Rattle.ground.specs.Bits.{bit_at};
-ghost use Rattle.lines.specs.inside.Puts.{put_text};
-ghost use Rattle.lines.specs.Rows.{none_text, row_bits, row_text, rest_of_line, past_line, remainder_line};
+ghost use Rattle.lines.specs.inside.Puts.{Puts};
+ghost use Rattle.lines.specs.Rows.{row_bits, row_text, rest_of_line};
 ghost use Rattle.lines.specs.Rows.{rows_of, row_of};
 ghost use Rattle.lines.specs.Clauses.{RowLineClause};
 
-use crate::text::{put_listed, put_number, put_text};
+use crate::line::Line;
 use forms::area::load;
 use rewriting::rule::parameters_in;
 use watcher::state::Watcher;
@@ -18,6 +18,7 @@ const ROW_BITS: usize = 1 << Watcher::PARAMETERS;
 pub const ROW_BYTES: usize = 5 * ROW_BITS + 8;
 
 // Whether the row has term k.
+#[tactic(auto, unfolding(ground::specs::Bits::bit, ground::specs::Bits::bit_at))]
 fn has_term(row: &[u64; 64], k: usize) -> bool
     requires { k < row_bits }
     ensures { result ≡ bit_at row.now k }
@@ -25,84 +26,56 @@ fn has_term(row: &[u64; 64], k: usize) -> bool
     (row[k / 64] >> (k % 64)) % 2 == 1
 }
 
-// A dash where there is no term.
-fn put_none(out: &mut [u8], at: usize, any: bool) -> usize
-    ensures { (result, out.new) ≡ put_text (at, out.old) (none_text any) }
-{
-    if any {
-        return at;
+impl Line<'_> {
+    // The terms of a row: a dash where there is none.
+    fn put_row(&mut self, row: &[u64; 64])
+        ensures { Puts self.old self.new (row_text row.now) }
+    {
+        if !self.put_numbers(ROW_BITS, |k| has_term(row, k)) {
+            self.put_text(b"-");
+        }
     }
-    put_text(out, at, b"-")
-}
 
-// The terms of a row.
-fn put_row(out: &mut [u8], at: usize, row: &[u64; 64]) -> usize
-    ensures { (result, out.new) ≡ put_text (at, out.old) (row_text row.now) }
-{
-    let mut next = at;
-    let mut any = false;
-    for k in 0..ROW_BITS {
-        let here = has_term(row, k);
-        next = put_listed(out, next, here, any, k);
-        any = any | here;
+    // What stands behind the name of the row at a place.
+    fn put_rest(&mut self, area: &[u64], place: usize)
+        ensures { Puts self.old self.new (rest_of_line area.now place) }
+    {
+        self.put_text(b" ");
+        self.put_row(&load(area, place));
+        self.put_text(b"\n");
     }
-    put_none(out, next, any)
-}
 
-// What stands behind the name of the row at a place.
-fn put_rest(out: &mut [u8], at: usize, area: &[u64], place: usize) -> usize
-    ensures { (result, out.new) ≡ put_text (at, out.old) (rest_of_line area.now place) }
-{
-    let row = load(area, place);
-    let terms = put_text(out, at, b" ");
-    let end = put_row(out, terms, &row);
-    put_text(out, end, b"\n")
-}
-
-// The line of past row j.
-fn put_past(out: &mut [u8], at: usize, area: &[u64], j: usize) -> usize
-    ensures { (result, out.new) ≡ put_text (at, out.old) (past_line area.now j) }
-{
-    let number = put_text(out, at, b"p");
-    let rest = put_number(out, number, j);
-    put_rest(out, rest, area, j)
-}
-
-// The line of the remainder.
-fn put_remainder(out: &mut [u8], at: usize, area: &[u64]) -> usize
-    ensures { (result, out.new) ≡ put_text (at, out.old) (remainder_line area.now) }
-{
-    let rest = put_text(out, at, b"r");
-    put_rest(out, rest, area, Watcher::PARAMETERS)
+    // Line j of the rows, of so many past ones and the remainder.
+    fn put_line(&mut self, rows: usize, area: &[u64], j: usize)
+        ensures { Puts self.old self.new (row_of rows area.now j) }
+    {
+        if j < rows {
+            self.put_text(b"p");
+            self.put_number(j);
+            self.put_rest(area, j);
+        } else if j == rows {
+            self.put_text(b"r");
+            self.put_rest(area, Watcher::PARAMETERS);
+        }
+    }
 }
 
 // How many past rows a state has.
 fn rows_of(watcher: Watcher) -> usize
     ensures { result ≡ rows_of watcher }
 {
-    let rule = watcher.rule;
-    if Watcher::RECORDS < watcher.records {
-        return 0;
+    if watcher.records > Watcher::RECORDS {
+        0
+    } else {
+        parameters_in(&watcher.rule, watcher.records)
     }
-    parameters_in(&rule, watcher.records)
-}
-
-// Line j of the rows, of so many past ones and the remainder.
-fn put_line(out: &mut [u8], rows: usize, area: &[u64], j: usize) -> usize
-    ensures { (result, out.new) ≡ put_text (0, out.old) (row_of rows area.now j) }
-{
-    if j < rows {
-        return put_past(out, 0, area, j);
-    }
-    if j == rows {
-        return put_remainder(out, 0, area);
-    }
-    0
 }
 
 // Line j of a state's rows: its past rows, then the remainder, then none.
 pub fn row_line(watcher: Watcher, area: &[u64], j: usize, out: &mut [u8]) -> usize
     ensures { RowLineClause watcher area.now j out.old (result, out.new) }
 {
-    put_line(out, rows_of(watcher), area, j)
+    let mut line = Line::new(out);
+    line.put_line(rows_of(watcher), area, j);
+    line.len()
 }

@@ -1,132 +1,72 @@
-// Text put into a lent buffer from a place on; each function answers the place behind it, and never passes the end.
-ghost use Rattle.std.specs.Prelude.{◌≡◌, ℕ, ◌<◌};
-ghost use Rattle.lines.specs.inside.Puts.{put_byte, put_text};
-ghost use Rattle.lines.specs.Text.{digits, decimal, listed_text, word_text, verdict_text, refused_line};
-ghost use Rattle.lines.specs.Text.{found_line, ask_text, end_text, end_line};
+// The lines that say what was found, refused or decided.
+ghost use Rattle.std.specs.Prelude.{◌≡◌};
+ghost use Rattle.lines.specs.inside.Puts.{Puts};
+ghost use Rattle.lines.specs.Text.{word_text, verdict_text, refused_line, found_line, ask_text, end_line};
 
-use watcher::state::{End, Found, Refusal, Verdict, Word};
+use crate::line::Line;
+use watcher::state::{Refusal, Verdict, Word};
 
-// A byte.
-pub(crate) fn put(out: &mut [u8], at: usize, byte: u8) -> usize
-    ensures { (result, out.new) ≡ put_byte (at, out.old) byte }
-{
-    if at < out.len() {
-        out[at] = byte;
-        return at + 1;
-    }
-    at
-}
-
-// Some bytes.
-pub(crate) fn put_text(out: &mut [u8], at: usize, text: &[u8]) -> usize
-    ensures { (result, out.new) ≡ put_text (at, out.old) text.now }
-{
-    let mut next = at;
-    for i in 0..text.len() {
-        next = put(out, next, text[i]);
-    }
-    next
-}
-
-// The digits of a number.
-fn put_digits(out: &mut [u8], at: usize, n: usize) -> usize
-    ensures { (k : ℕ) → n < k → (result, out.new) ≡ put_text (at, out.old) (digits k n) }
-{
-    if n < 10 {
-        return put(out, at, b'0' + n as u8);
-    }
-    let next = put_digits(out, at, n / 10);
-    put(out, next, b'0' + (n % 10) as u8)
-}
-
-// A number.
-pub(crate) fn put_number(out: &mut [u8], at: usize, n: usize) -> usize
-    ensures { (result, out.new) ≡ put_text (at, out.old) (decimal n) }
-{
-    put_digits(out, at, n)
-}
-
-// A number that is listed, behind a comma where a lower one is.
-pub(crate) fn put_listed(out: &mut [u8], at: usize, here: bool, lower: bool, k: usize) -> usize
-    ensures { (result, out.new) ≡ put_text (at, out.old) (listed_text here lower k) }
-{
-    if here {
-        if lower {
-            let next = put_text(out, at, b",");
-            return put_number(out, next, k);
+impl Line<'_> {
+    // A word.
+    #[tactic(auto, unfolding(crate::specs::Text::word_text))]
+    pub(crate) fn put_word(&mut self, word: Word)
+        ensures { Puts self.old self.new (word_text word) }
+    {
+        match word {
+            Word::Kept => self.put_text(b"kept"),
+            Word::Broken => self.put_text(b"broken"),
+            Word::Pending => self.put_text(b"pending"),
         }
-        return put_number(out, at, k);
     }
-    at
-}
 
-// A word.
-pub(crate) fn put_word(out: &mut [u8], at: usize, word: Word) -> usize
-    ensures { (result, out.new) ≡ put_text (at, out.old) (word_text word) }
-{
-    match word {
-        Word::Kept => put_text(out, at, b"kept"),
-        Word::Broken => put_text(out, at, b"broken"),
-        Word::Pending => put_text(out, at, b"pending"),
+    // A verdict.
+    #[tactic(auto, unfolding(crate::specs::Text::verdict_text))]
+    fn put_verdict(&mut self, verdict: Verdict)
+        ensures { Puts self.old self.new (verdict_text verdict) }
+    {
+        self.put_word(verdict.word());
     }
-}
 
-// A verdict.
-fn put_verdict(out: &mut [u8], at: usize, verdict: Verdict) -> usize
-    ensures { (result, out.new) ≡ put_text (at, out.old) (verdict_text verdict) }
-{
-    put_word(out, at, verdict.word())
-}
-
-// The line of a refusal.
-pub(crate) fn put_refused(out: &mut [u8], at: usize, refusal: Refusal) -> usize
-    ensures { (result, out.new) ≡ put_text (at, out.old) (refused_line refusal) }
-{
-    let number = put_text(out, at, b"refused ");
-    let end = put_number(out, number, refusal.number());
-    put_text(out, end, b"\n")
-}
-
-// The line of a start: none where nothing is refused.
-pub(crate) fn put_found(out: &mut [u8], at: usize, found: Found) -> usize
-    ensures { (result, out.new) ≡ put_text (at, out.old) (found_line found) }
-{
-    match found {
-        Found::Fine => at,
-        Found::Refused(refusal) => put_refused(out, at, refusal),
+    // The line of a refusal.
+    pub(crate) fn put_refused(&mut self, refusal: Refusal)
+        ensures { Puts self.old self.new (refused_line refusal) }
+    {
+        self.put_text(b"refused ");
+        self.put_number(refusal.number());
+        self.put_text(b"\n");
     }
-}
 
-// What asking answers, behind a word: nothing where it is refused.
-pub(crate) fn put_ask(out: &mut [u8], at: usize, end: End) -> usize
-    ensures { (result, out.new) ≡ put_text (at, out.old) (ask_text end) }
-{
-    match end {
-        End::Closed(verdict) => {
-            let told = put_text(out, at, b" ask ");
-            put_verdict(out, told, verdict)
+    // The line of a start: none where nothing is refused.
+    #[tactic(auto, using(crate::proofs::Texts::puts_none), unfolding(crate::specs::Text::found_line))]
+    pub(crate) fn put_found(&mut self, found: Result<(), Refusal>)
+        ensures { Puts self.old self.new (found_line found) }
+    {
+        if let Err(refusal) = found {
+            self.put_refused(refusal);
         }
-        End::Refused(_) => at,
     }
-}
 
-// What stands behind "end ".
-fn put_ending(out: &mut [u8], at: usize, end: End) -> usize
-    ensures { (result, out.new) ≡ put_text (at, out.old) (end_text end) }
-{
-    match end {
-        End::Closed(verdict) => {
-            let line_end = put_verdict(out, at, verdict);
-            put_text(out, line_end, b"\n")
+    // What asking answers, behind a word: nothing where it is refused.
+    pub(crate) fn put_ask(&mut self, end: Result<Verdict, Refusal>)
+        ensures { Puts self.old self.new (ask_text end) }
+    {
+        if let Ok(verdict) = end {
+            self.put_text(b" ask ");
+            self.put_verdict(verdict);
         }
-        End::Refused(refusal) => put_refused(out, at, refusal),
     }
-}
 
-// The line of an end.
-pub(crate) fn put_end(out: &mut [u8], at: usize, end: End) -> usize
-    ensures { (result, out.new) ≡ put_text (at, out.old) (end_line end) }
-{
-    let ending = put_text(out, at, b"end ");
-    put_ending(out, ending, end)
+    // The line of an end.
+    pub(crate) fn put_end(&mut self, end: Result<Verdict, Refusal>)
+        ensures { Puts self.old self.new (end_line end) }
+    {
+        self.put_text(b"end ");
+        match end {
+            Ok(verdict) => {
+                self.put_verdict(verdict);
+                self.put_text(b"\n");
+            }
+            Err(refusal) => self.put_refused(refusal),
+        }
+    }
 }

@@ -1,14 +1,14 @@
 // Start, feed and ask, each with the line that it prints.
 ghost use Rattle.lines.specs.Clauses.{LineBytesClause, StartLineClause, FeedLineClause, AskLineClause};
 
-use crate::records::put_answer;
-use crate::text::{put_end, put_found};
+use crate::line::Line;
 use watcher::state::Watcher;
 
 // Bytes that no line has more of.
 pub const LINE_BYTES: usize = 80;
 
 // What start hands back: the state, whether it is ready, and how many bytes its line has.
+// It stays no Option: its clause says the state where start is refused too.
 #[derive(Clone, Copy)]
 pub struct Opened {
     pub next: Watcher,
@@ -36,13 +36,12 @@ pub fn start_line(rule: &[u8], signals: &[u8], area: &mut [u64], out: &mut [u8])
         (result, area.new, out.new) }
 {
     let started = Watcher::start(rule, signals, area);
-    let found = started.found;
-    let next = started.next;
-    let length = put_found(out, 0, found);
+    let mut line = Line::new(out);
+    line.put_found(started.found);
     Opened {
-        next,
-        ready: !found.is_refused(),
-        length,
+        next: started.next,
+        ready: started.found.is_ok(),
+        length: line.len(),
     }
 }
 
@@ -58,15 +57,19 @@ pub fn feed_line(
         (result, area.new, out.new) }
 {
     let fed = watcher.feed(piece, area);
-    let answer = fed.answer;
-    let next = fed.next;
-    let length = put_answer(out, piece, answer, more, next, area);
-    Turn { next, length }
+    let mut line = Line::new(out);
+    line.put_answer(piece, fed.answer, more, fed.next, area);
+    Turn {
+        next: fed.next,
+        length: line.len(),
+    }
 }
 
 // Ask how the log ends; the line is the verdict, or the refusal.
 pub fn ask_line(watcher: Watcher, area: &[u64], out: &mut [u8]) -> usize
     ensures { AskLineClause watcher area.now out.old (result, out.new) }
 {
-    put_end(out, 0, watcher.ask(area))
+    let mut line = Line::new(out);
+    line.put_end(watcher.ask(area));
+    line.len()
 }

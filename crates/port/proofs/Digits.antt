@@ -1,11 +1,12 @@
--- The bytes of a number make it again; eight bytes are four and four.
+-- The bytes of a number make it again, and are those that the code makes.
 -- Assumes nothing.
-use mathlib.Core.Path.{◌≡◌, refl, ap, ◌∙◌}
+use mathlib.Core.Path.{◌≡◌, refl, sym, ap, ◌∙◌}
 use mathlib.Core.List.{List}
 use Prim.Native.Nat.{ℕ, zero, suc, ◌+◌, ◌*◌, ◌-◌, ◌/◌, ◌%◌, ◌^◌, ◌≤◌, ◌<◌}
-use native.Mathlib.Nat.{pow-succ'}
+use native.Mathlib.Nat.{pow-succ', div-one, div-div-eq-div-mul}
 use native.Mathlib.Omega.{arith}
-use lib.ListN.{get_or}
+use lib.ListN.{length, get_or}
+use Rattle.std.specs.Int.{byte_at, bytes_low_first}
 use Rattle.ground.specs.Bytes.{little}
 use Rattle.port.specs.Layout.{digit}
 
@@ -24,19 +25,26 @@ little_digits bytes at (suc n) x p h =
     (omega (arith, pow-succ' 256 n)) in
     omega (arith, low, rest)
 
--- eight bytes are four and four
-pub little_eight : (bytes : List ℕ) (at : ℕ)
-    → little bytes at 8 ≡ little bytes at 4 + 4294967296 * little bytes (at + 4) 4
-unfolding little
-little_eight bytes at = let e : at + 4 ≡ at + 1 + 1 + 1 + 1 = omega arith in rw e (omega arith)
-
--- one turn of the division, and its end
-pub digit_down : (n k : ℕ) → 0 < k → digit (n / 256) (k - 1) ≡ digit n k
+-- a byte of a number, by a power of 256
+digit_power : (n k : ℕ) → digit n k ≡ n / 256 ^ k % 256
 unfolding digit
-digit_down n zero h = let z : ⊥ = omega arith in absurd z
-digit_down n (suc k) h = let e : suc k - 1 ≡ k = omega arith in ap (digit (n / 256)) e
+digit_power n zero = ap (λ x. x % 256) (sym (div-one n))
+digit_power n (suc k) =
+    digit_power (n / 256) k
+    ∙ ap (λ x. x % 256) (div-div-eq-div-mul n 256 (256 ^ k) ∙ ap (λ x. n / x) (sym (pow-succ' 256 k)))
 
-pub digit_none : (n k : ℕ) → k ≤ 0 → n % 256 ≡ digit n k
-unfolding digit
-digit_none n zero h = refl
-digit_none n (suc k) h = let z : ⊥ = omega arith in absurd z
+byte_power : (n k : ℕ) → byte_at k n ≡ n / 256 ^ k % 256
+byte_power n zero = ap (λ x. x % 256) (sym (div-one n))
+byte_power n (suc k) = refl
+
+-- the bytes of a number as the code makes them
+pub length_low : (k n x : ℕ) → length (bytes_low_first k n x) ≡ n
+length_low k zero x = refl
+length_low k (suc n) x = ap suc (length_low (suc k) n x)
+
+pub low_at : (k n x i : ℕ) → i < n → get_or (bytes_low_first k n x) i 0 ≡ digit x (k + i)
+low_at k zero x i h = let z : ⊥ = omega arith in absurd z
+low_at k (suc n) x zero h =
+    let e : k ≡ k + 0 = omega arith in byte_power x k ∙ sym (digit_power x k) ∙ ap (digit x) e
+low_at k (suc n) x (suc i) h =
+    let e : suc k + i ≡ k + suc i = omega arith in low_at (suc k) n x i (omega arith) ∙ ap (digit x) e

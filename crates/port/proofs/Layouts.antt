@@ -2,17 +2,18 @@
 -- Assumes nothing.
 use mathlib.Core.Path.{◌≡◌, refl, sym, ap, ◌∙◌}
 use mathlib.Core.Bool.{◌&&◌, cond}
-use mathlib.Core.Logic.{⊎_elim}
+use mathlib.Core.Logic.{inl, ⊎_elim}
 use mathlib.Core.List.{List}
 use Prim.Native.Nat.{ℕ, zero, suc, ◌+◌, ◌-◌, ◌≤◌, ◌<◌}
 use native.Mathlib.Omega.{arith}
 use lib.Dec.{leb, ltb}
-use lib.ListN.{length, get_or, set}
-use lib.Seq.{get_or-set_same, get_or-set_other}
+use Rattle.std.specs.Int.{bytes_low_first}
+use lib.ListN.{length, get_or, set, take, drop, length-set}
+use Rattle.std.proofs.lemmas.List.{length-take-le, length-drop, get_or-take, get_or-drop}
 use borrow.Author.Tests.{lt-ltb, le-ltb, le-leb, lt-leb}
 use Rattle.ground.specs.Bytes.{little}
 use Rattle.ground.proofs.Folds.{less_or_not}
-use Rattle.ground.proofs.Tabs.{length_tab, get_d_tab}
+use Rattle.ground.proofs.Tabs.{tab_is, filled_more, parted, length_parted, parted_new, parted_old}
 use Rattle.meaning.specs.Rule.{Entry}
 use Rattle.watcher.specs.declared.state.Watcher.{Watcher}
 use Rattle.watcher.specs.declared.state.Phase.{Phase}
@@ -23,8 +24,8 @@ use Rattle.watcher.specs.Numbers.{stage_of, last_in}
 use Rattle.watcher.specs.Calls.{zero_state}
 use Rattle.port.specs.Layout.{state_bytes, rule_place, list_place, records_place, signals_place, time_place, word_place}
 use Rattle.port.specs.Layout.{phase_place, zero_place, digit, phase_number, number_byte, byte_at}
-use Rattle.port.specs.Layout.{phase_with, list_at, state_in}
-use Rattle.port.specs.inside.Steps.{list_put}
+use Rattle.port.specs.Layout.{phase_with, list_at, state_in, written}
+use Rattle.port.proofs.Digits.{length_low, low_at}
 
 module _ (records signals : ℕ) (last : Entry) (phase i : ℕ) where
   pub number_records : i < signals_place
@@ -81,78 +82,6 @@ pub byte_number : (w : Watcher) (i : ℕ) → records_place ≤ i
 unfolding byte_at
 byte_number w i a = rw (le-ltb i list_place (omega arith)) (rw (le-ltb i records_place a) refl)
 
--- bytes with the first n bytes of a list put in from a place on, byte by byte
-abbrev pub put_at : (bytes : List ℕ) (place n : ℕ) (list : List ℕ) → ℕ → ℕ
-put_at bytes place n list j = cond (leb place j && ltb j (place + n)) (get_or list (j - place) 0) (get_or bytes j 0)
-
-put_in : (bytes list : List ℕ) (place n j : ℕ) → place ≤ j → j < place + n
-    → put_at bytes place n list j ≡ get_or list (j - place) 0
-put_in bytes list place n j a h = rw (le-leb place j a) (rw (lt-ltb j (place + n) h) refl)
-
-put_below : (bytes list : List ℕ) (place n j : ℕ) → j < place → put_at bytes place n list j ≡ get_or bytes j 0
-put_below bytes list place n j h = rw (lt-leb place j h) refl
-
-put_above : (bytes list : List ℕ) (place n j : ℕ) → place + n ≤ j → put_at bytes place n list j ≡ get_or bytes j 0
-put_above bytes list place n j h =
-    rw (le-leb place j (omega arith)) (rw (le-ltb j (place + n) h) refl)
-
-pub put_none : (bytes list : List ℕ) (place j : ℕ) → get_or bytes j 0 ≡ put_at bytes place 0 list j
-put_none bytes list place j =
-    ⊎_elim (λ h. sym (put_below bytes list place 0 j h)) (λ h. sym (put_above bytes list place 0 j (omega arith)))
-    (less_or_not j place)
-
--- one turn of the loop that puts a list in
-pub put_more : (bytes₀ bytes list : List ℕ) (place i : ℕ) → place + i < length bytes
-    → ((j : ℕ) → get_or bytes j 0 ≡ put_at bytes₀ place i list j) → (j : ℕ)
-    → get_or (set bytes (place + i) (get_or list i 0)) j 0 ≡ put_at bytes₀ place (i + 1) list j
-put_more bytes₀ bytes list place i h p j =
-    ⊎_elim
-    (λ (a : j < place + i).
-    get_or-set_other bytes (place + i) j (get_or list i 0) 0 (λ q. let z : ⊥ = omega arith in z) ∙ p j
-    ∙ ⊎_elim (λ b. put_below bytes₀ list place i j b ∙ sym (put_below bytes₀ list place (i + 1) j b))
-    (λ b. put_in bytes₀ list place i j b a ∙ sym (put_in bytes₀ list place (i + 1) j b (omega arith)))
-    (less_or_not j place))
-    (λ (a : place + i ≤ j).
-    ⊎_elim
-    (λ (b : j < place + (i + 1)).
-    let e : j ≡ place + i = omega arith in
-    let d : place + i - place ≡ i = omega arith in
-    rw e
-    (get_or-set_same bytes (place + i) (get_or list i 0) 0 h ∙ ap (λ k. get_or list k 0) (sym d)
-    ∙ sym (put_in bytes₀ list place (i + 1) (place + i) (omega arith) (omega arith))))
-    (λ b.
-    get_or-set_other bytes (place + i) j (get_or list i 0) 0 (λ q. let z : ⊥ = omega arith in z) ∙ p j
-    ∙ put_above bytes₀ list place i j a ∙ sym (put_above bytes₀ list place (i + 1) j b))
-    (less_or_not j (place + (i + 1))))
-    (less_or_not j (place + i))
-
--- a byte of bytes with a list put in
-list_put_at : (bytes list : List ℕ) (place j : ℕ) → j < length bytes
-    → get_or (list_put bytes place list) j 0 ≡ put_at bytes place list_bytes list j
-unfolding list_put
-list_put_at bytes list place j h = get_d_tab (length bytes) (put_at bytes place list_bytes list) j 0 h
-
--- the phase of a number
-pub phase_fresh : (n time signals : ℕ) → n ≡ 0 → Fresh ≡ phase_with n time signals
-unfolding phase_with
-phase_fresh n time signals e = rw e refl
-
-pub phase_running : (n time signals : ℕ) → n ≡ 1 → Running time signals ≡ phase_with n time signals
-unfolding phase_with
-phase_running n time signals e = rw e refl
-
-pub phase_kept : (n time signals : ℕ) → n ≡ 2 → Closed Kept ≡ phase_with n time signals
-unfolding phase_with
-phase_kept n time signals e = rw e refl
-
-pub phase_broken : (n time signals : ℕ) → (n ≡ 0 → ⊥) → (n ≡ 1 → ⊥) → (n ≡ 2 → ⊥)
-    → Closed Broken ≡ phase_with n time signals
-unfolding phase_with
-phase_broken zero time signals a b d = absurd (a refl)
-phase_broken (suc zero) time signals a b d = absurd (b refl)
-phase_broken (suc (suc zero)) time signals a b d = absurd (d refl)
-phase_broken (suc (suc (suc n))) time signals a b d = refl
-
 -- bytes whose phase has no number, and bytes that hold a state
 pub read_none : (bytes : List ℕ) (w : Watcher) → 3 < get_or bytes phase_place 0 → w ≡ zero_state → w ≡ state_in bytes
 unfolding state_in
@@ -168,32 +97,82 @@ unfolding state_in
 read_some bytes rule list number records signals time word phase n h r l t w p k s =
     rw (le-ltb 3 (get_or bytes phase_place 0) (omega (arith, n))) cc
 
--- bytes with a list put in are as long as before
-pub length_put : (bytes list : List ℕ) (place : ℕ) → length (list_put bytes place list) ≡ length bytes
-unfolding list_put
-length_put bytes list place = length_tab (length bytes) (put_at bytes place list_bytes list)
+-- the bytes of a list from its place on, where they are there
+pub list_there : (bytes : List ℕ) (place : ℕ) → place + list_bytes ≤ length bytes
+    → take (place + list_bytes - place) (drop place bytes) ≡ list_at bytes place
+unfolding list_at
+list_there bytes place h =
+    let k : place + list_bytes - place ≡ list_bytes = omega arith in
+    rw k
+    (tab_is list_bytes (λ i. get_or bytes (place + i) 0) (take list_bytes (drop place bytes)) 0
+    (length-take-le list_bytes (drop place bytes) (omega (arith, length-drop place bytes)))
+    (λ i l. get_or-take list_bytes (drop place bytes) i 0 l ∙ get_or-drop place bytes i 0))
 
--- once both lists are put in, the bytes below the numbers are the state's
-pub lists_put : (w : Watcher) (b₀ b₁ b₂ : List ℕ) → length b₀ ≡ state_bytes → b₁ ≡ list_put b₀ rule_place w.rule
-    → b₂ ≡ list_put b₁ list_place w.list → (j : ℕ) → j < records_place → get_or b₂ j 0 ≡ byte_at w j
-lists_put w b₀ b₁ b₂ l e f j h =
-    let long : length b₁ ≡ state_bytes = ap length e ∙ length_put b₀ w.rule rule_place ∙ l in
-    ap (λ b. get_or b j 0) f ∙ list_put_at b₁ w.list list_place j (omega (arith, long))
-    ∙ ⊎_elim
-    (λ (a : j < list_place).
-    let d : j - rule_place ≡ j = omega arith in
-    put_below b₁ w.list list_place list_bytes j a ∙ ap (λ b. get_or b j 0) e
-    ∙ list_put_at b₀ w.rule rule_place j (omega (arith, l))
-    ∙ put_in b₀ w.rule rule_place list_bytes j (omega arith) (omega arith) ∙ ap (λ k. get_or w.rule k 0) d
-    ∙ byte_rule w j a)
-    (λ (a : list_place ≤ j).
-    put_in b₁ w.list list_place list_bytes j a (omega arith) ∙ byte_list w j a h)
-    (less_or_not j list_place)
+-- bytes that are the state's below n
+pub record Begun (w : Watcher) (n : ℕ) (bytes : List ℕ) : Type 0 where
+  pub long : length bytes ≡ state_bytes
+  pub each : (j : ℕ) → j < n → get_or bytes j 0 ≡ byte_at w j
 
--- a byte of the numbers, made from the phase's parts
-pub byte_made : (w : Watcher) (i : ℕ) (last : Entry) (number x : ℕ) → records_place ≤ i
-    → last ≡ last_in (stage_of w.phase) → number ≡ phase_number w.phase
-    → x ≡ number_byte w.records w.signals last number i → x ≡ byte_at w i
-byte_made w i last number x a l n e =
-    let made : x ≡ number_byte w.records w.signals (last_in (stage_of w.phase)) (phase_number w.phase) i = cc in
-    made ∙ byte_number w i a
+module _ (w : Watcher) (bytes : List ℕ) where
+  pub begun : length bytes ≡ state_bytes → Begun w 0 bytes
+  begun l = record { long = l; each = λ j h. let z : ⊥ = omega arith in absurd z }
+
+  -- one field more: its bytes from a place on
+  put_field : (new : List ℕ) (from to : ℕ) → from ≤ to → to ≤ state_bytes → Begun w from bytes
+      → length new ≡ to - from → ((i : ℕ) → i < to - from → get_or new i 0 ≡ byte_at w (from + i))
+      → Begun w to (parted bytes new from to)
+  put_field new from to low high sofar l p = record {
+    long = length_parted bytes new from to low (omega (arith, sofar.long)) l ∙ sofar.long;
+    each = λ j h.
+        ⊎_elim
+        (λ u.
+        parted_old bytes new from to low (omega (arith, sofar.long)) l j 0 (inl u) ∙ sofar.each j u)
+        (λ u.
+        let e : from + (j - from) ≡ j = omega arith in
+        parted_new bytes new from to low (omega (arith, sofar.long)) l j 0 u h
+        ∙ p (j - from) (omega arith) ∙ ap (byte_at w) e)
+        (less_or_not j from);
+  }
+
+  pub put_rule : (new : List ℕ) → Begun w rule_place bytes → length w.rule ≡ list_bytes → new ≡ w.rule
+      → Begun w list_place (parted bytes new rule_place list_place)
+  put_rule new sofar l e =
+      put_field new rule_place list_place (omega arith) (omega arith) sofar (ap length e ∙ l)
+      (λ i h.
+      let z : rule_place + i ≡ i = omega arith in
+      ap (λ b. get_or b i 0) e ∙ byte_rule w i h ∙ ap (byte_at w) (sym z))
+
+  pub put_list : (new : List ℕ) → Begun w list_place bytes → length w.list ≡ list_bytes → new ≡ w.list
+      → Begun w records_place (parted bytes new list_place records_place)
+  put_list new sofar l e =
+      put_field new list_place records_place (omega arith) (omega arith) sofar (ap length e ∙ l)
+      (λ i h.
+      let z : i ≡ list_place + i - list_place = omega arith in
+      ap (λ b. get_or b i 0) e ∙ ap (λ k. get_or w.list k 0) z
+      ∙ byte_list w (list_place + i) (omega arith) (omega arith))
+
+  -- a number x of n bytes, as the code makes them
+  pub put_number : (x n : ℕ) (new made : List ℕ) (from : ℕ) → records_place ≤ from → from + n ≤ state_bytes
+      → Begun w from bytes → new ≡ made → made ≡ bytes_low_first 0 n x
+      → ((i : ℕ) → from ≤ i → i < from + n → digit x (i - from)
+      ≡ number_byte w.records w.signals (last_in (stage_of w.phase)) (phase_number w.phase) i)
+      → Begun w (from + n) (parted bytes new from (from + n))
+  put_number x n new made from low high sofar e f p =
+      let k : from + n - from ≡ n = omega arith in
+      put_field new from (from + n) (omega arith) high sofar (ap length (e ∙ f) ∙ length_low 0 n x ∙ sym k)
+      (λ i h.
+      let z : 0 + i ≡ from + i - from = omega arith in
+      ap (λ b. get_or b i 0) (e ∙ f) ∙ low_at 0 n x i (omega arith) ∙ ap (digit x) z
+      ∙ p (from + i) (omega arith) (omega arith) ∙ byte_number w (from + i) (omega arith))
+
+  -- one byte more
+  pub put_byte : (x from : ℕ) → from < state_bytes → Begun w from bytes → x ≡ byte_at w from
+      → Begun w (from + 1) (set bytes from x)
+  put_byte x from h sofar e = record {
+    long = length-set bytes from x ∙ sofar.long;
+    each = filled_more bytes from x 0 (byte_at w) (omega (arith, sofar.long)) e sofar.each;
+  }
+
+  pub finished : Begun w state_bytes bytes → bytes ≡ written w
+  unfolding written
+  finished all = tab_is state_bytes (byte_at w) bytes 0 all.long all.each

@@ -1,13 +1,12 @@
 -- The watcher call by call, with its state in lent bytes: the code, the bytes and the work area afterwards.
-use Rattle.std.specs.Prelude.{Bool, not, cond, List, ℕ, eqb, length}
+use Rattle.std.specs.Prelude.{Bool, not, cond, List, ℕ, eqb, length, Ok, Err}
 use Rattle.meaning.specs.Horizon.{never}
 use Rattle.watcher.specs.declared.state.Watcher.{Watcher}
 use Rattle.watcher.specs.declared.state.Started.{Started}
 use Rattle.watcher.specs.declared.state.Fed.{Fed}
 use Rattle.watcher.specs.declared.state.Ended.{Ended}
 use Rattle.watcher.specs.Calls.{start_of, feed_of, feed_refusal, ask_of, close_of, wait_of}
-use Rattle.port.specs.declared.codes.Told.{Told}
-use Rattle.port.specs.declared.codes.Told.TheVariants.{Said, Refused}
+use Rattle.port.specs.Codes.{Told}
 use Rattle.port.specs.Codes.{state_length, found_code, told_of, told_at, told_code, end_code, horizon_code}
 use Rattle.port.specs.Layout.{state_bytes, written, state_in}
 
@@ -30,8 +29,8 @@ refusal_bytes bytes piece ws =
 
 -- the bytes after what is told: the next state, or as they were where it is a refusal
 unfoldable pub kept_unless : Told → (next bytes : List ℕ) → List ℕ
-kept_unless (Said w) next bytes = next
-kept_unless (Refused r) next bytes = bytes
+kept_unless (Ok w) next bytes = next
+kept_unless (Err r) next bytes = bytes
 
 -- the code of what is told, with the bytes and the work area after it
 unfoldable pub told_bytes : Told → Watcher → (ws bytes : List ℕ) → ℕ × List ℕ × List ℕ

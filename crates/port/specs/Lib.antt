@@ -4,4 +4,3 @@ pub mod Exports
 pub mod Signals
 pub mod Whole
 pub mod Clauses
-pub mod inside

@@ -4,14 +4,7 @@ ghost use Rattle.watcher.specs.Numbers.{refusal_number, horizon_for};
 ghost use Rattle.port.specs.Codes.{word_code, test_code, found_code, told_of, told_at, told_code, horizon_code};
 
 use watcher::readings::Tested;
-use watcher::state::{Answer, End, Found, Refusal, Wait, Word};
-
-// What an answer tells: a word, or a refusal.
-#[derive(Clone, Copy)]
-pub(crate) enum Told {
-    Said(Word),
-    Refused(Refusal),
-}
+use watcher::state::{Refusal, Report, Verdict, Word};
 
 // Codes that are not one for each piece of the log.
 pub(crate) const CODES_LENGTH: u8 = 90;
@@ -52,57 +45,47 @@ pub(crate) fn test_code(tested: Tested) -> u8
 }
 
 // The code of what a check finds.
-pub(crate) fn found_code(found: Found) -> u8
+#[tactic(auto, unfolding(crate::specs::Codes::found_code))]
+pub(crate) fn found_code(found: Result<(), Refusal>) -> u8
     ensures { result ≡ found_code found }
 {
     match found {
-        Found::Fine => 0,
-        Found::Refused(refusal) => refusal_code(refusal),
+        Ok(()) => 0,
+        Err(refusal) => refusal_code(refusal),
     }
 }
 
 // What the answer to a record tells.
-pub(crate) fn told_of(answer: Answer) -> Told
+#[tactic(auto, unfolding(crate::specs::Codes::told_of))]
+pub(crate) fn told_of(answer: Result<Report, Refusal>) -> Result<Word, Refusal>
     ensures { result ≡ told_of answer }
 {
-    match answer {
-        Answer::Accepted(report) => {
-            let word = report.word;
-            Told::Said(word)
-        }
-        Answer::Refused(refusal) => Told::Refused(refusal),
-    }
+    answer.map(|report| report.word)
 }
 
 // What the answer to asking or closing tells: a verdict is the word that says the same.
-pub(crate) fn told_at(end: End) -> Told
+#[tactic(auto, unfolding(crate::specs::Codes::told_at))]
+pub(crate) fn told_at(end: Result<Verdict, Refusal>) -> Result<Word, Refusal>
     ensures { result ≡ told_at end }
 {
-    match end {
-        End::Closed(verdict) => {
-            let word = verdict.word();
-            Told::Said(word)
-        }
-        End::Refused(refusal) => Told::Refused(refusal),
-    }
+    end.map(Verdict::word)
 }
 
 // The code of what is told.
-pub(crate) fn told_code(told: Told) -> u8
+#[tactic(auto, unfolding(crate::specs::Codes::told_code))]
+pub(crate) fn told_code(told: Result<Word, Refusal>) -> u8
     ensures { result ≡ told_code told }
 {
     match told {
-        Told::Said(word) => word_code(word),
-        Told::Refused(refusal) => refusal_code(refusal),
+        Ok(word) => word_code(word),
+        Err(refusal) => refusal_code(refusal),
     }
 }
 
 // A horizon in minutes.
-pub(crate) fn horizon_code(wait: Wait) -> u64
+#[tactic(auto, unfolding(crate::specs::Codes::horizon_code, watcher::specs::Numbers::horizon_for))]
+pub(crate) fn horizon_code(wait: Option<usize>) -> u64
     ensures { result ≡ horizon_code (horizon_for wait) }
 {
-    match wait {
-        Wait::Forever => FOREVER,
-        Wait::Minutes(minutes) => minutes as u64,
-    }
+    wait.map_or(FOREVER, |minutes| minutes as u64)
 }

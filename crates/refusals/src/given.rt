@@ -25,21 +25,12 @@ const VENTED: [u8; Watcher::LOG_BYTES] = [0, 0, 0, 0, 0, 0, 0, 0, 0, 1, 0, 0, 0,
 
 // A watcher that starts on the two vents.
 pub(crate) fn fresh(rule: &[u8], area: &mut [u64]) -> Watcher {
-    let started = Watcher::start(rule, &SIGNALS, area);
-    let next = started.next;
-    next
-}
-
-// The watcher that was fed a record.
-fn fed(watcher: Watcher, record: &[u8], area: &mut [u64]) -> Watcher {
-    let fed = watcher.feed(record, area);
-    let next = fed.next;
-    next
+    Watcher::start(rule, &SIGNALS, area).next
 }
 
 // A watcher that was fed the record.
 pub(crate) fn running(rule: &[u8], area: &mut [u64]) -> Watcher {
-    fed(fresh(rule, area), &RECORD, area)
+    fresh(rule, area).feed(&RECORD, area).next
 }
 
 // A watcher of rule A that was fed it: broken, were it the last record.
@@ -49,13 +40,10 @@ pub(crate) fn running_a(area: &mut [u64]) -> Watcher {
 
 // A watcher of rule A that was fed both records: kept, were the second the last.
 pub(crate) fn met_a(area: &mut [u64]) -> Watcher {
-    fed(running_a(area), &VENTED, area)
+    running_a(area).feed(&VENTED, area).next
 }
 
 // A watcher of rule A that is closed.
 pub(crate) fn closed_a(area: &mut [u64]) -> Watcher {
-    let watcher = running_a(area);
-    let ended = watcher.close(area);
-    let next = ended.next;
-    next
+    running_a(area).close(area).next
 }

@@ -4,7 +4,6 @@ use mathlib.Core.Path.{◌≡◌, refl, sym, ap, ap₂, ◌∙◌, subst}
 use mathlib.Core.Bool.{Bool, true, false, ◌&&◌, ◌||◌, and-true, and-false, or-false}
 use mathlib.Core.List.{List, [], ◌∷◌, ◌++◌, append-nil, append_assoc}
 use Prim.Native.Nat.{ℕ, ◌+◌, ◌*◌, ◌%◌, ◌^◌, ◌≤◌, ◌<◌}
-use native.Mathlib.Nat.{le_antisymm}
 use native.Mathlib.Decide.{dec_lt}
 use native.Mathlib.Numerals.{add-one}
 use native.Mathlib.Omega.{arith}
@@ -18,30 +17,27 @@ use Rattle.ground.proofs.Bits.{bit_or_lem, bit_pow, one_shl}
 use Rattle.forms.specs.Form.{Form, constant, value}
 use Rattle.forms.specs.Area.{form_in}
 use Rattle.forms.proofs.Values.{value_constant}
-use Rattle.meaning.specs.Interval.{inside, shifted}
-use Rattle.meaning.specs.Rule.{Node, holds}
+use Rattle.meaning.specs.Rule.{Node}
 use Rattle.meaning.specs.Rewriting.{derived_row}
 use Rattle.meaning.proofs.Blocks.{block_low, one_new, length_one, length_block}
 use Rattle.meaning.proofs.Ending.{end_value, derived_end}
 use Rattle.rewriting.specs.declared.row.Row.TheVariants.{Derived}
 use Rattle.rewriting.specs.declared.step.Step.{Step}
-use Rattle.rewriting.specs.declared.step.Neighbour.TheVariants.{None}
+use Rattle.std.specs.Prelude.{None}
 use Rattle.rewriting.specs.Decode.{node_for}
-use Rattle.rewriting.specs.inside.Steps.{neighbour_of, interval_in, entry_in, row_by, made_of}
+use Rattle.rewriting.specs.inside.Steps.{neighbour_of, entry_in, row_by, made_of, at_shift}
 use Rattle.rewriting.specs.inside.Endings.{Settled, OfEnd, OfEnds}
-use Rattle.rewriting.proofs.ByKind.{kind_quiet, kind_past, node_signal, node_next, node_until}
-use Rattle.rewriting.proofs.Nodes.{at_shift}
 
 module _ (step : Step) (past forms derived : List (Form step.m)) (alone : step.neighbour ≡ None) (setting : ℕ)
     (settled : Settled step.m derived setting) (b : Bool) where
-  abbrev end_of : Node → Bool
+  abbrev pub end_of : Node → Bool
   end_of d = end_value step.m past forms (bit setting) (entry_in step) step.first d step.shift
 
-  abbrev Ends : Type 0
+  abbrev pub Ends : Type 0
   Ends = made_of Derived step derived past forms (node_for step.record) step.shift ≡ constant step.m b
 
-  end_is : b ≡ end_of (node_for step.record) → Ends
-  unfolding made_of row_by neighbour_of
+  pub end_is : b ≡ end_of (node_for step.record) → Ends
+  unfolding made_of row_by
   end_is e =
       ap (λ x. derived_row step.m past forms derived (entry_in step) (neighbour_of x) step.first
       (node_for step.record) step.shift) alone
@@ -49,55 +45,12 @@ module _ (step : Step) (past forms derived : List (Form step.m)) (alone : step.n
       (node_for step.record) step.shift
       ∙ ap (constant step.m) (sym e)
 
-  end_as : (x : Node) → node_for step.record ≡ x → b ≡ end_of x → Ends
-  end_as x e h = end_is (h ∙ ap end_of (sym e))
-
-  pub end_signal : step.record.kind ≡ 3 → b ≡ bit step.signals step.record.left → Ends
-  unfolding end_value entry_in holds
-  end_signal e h = end_as _ (node_signal step.record e) h
-
-  -- constants, and, exclusive or have no parameter, and next has no record to look at
-  pub end_quiet : 1 ≤ step.record.kind → step.record.kind < 7 → (step.record.kind ≡ 3 → ⊥) → b ≡ false → Ends
-  unfolding end_value
-  end_quiet some less n h = go (dec_lt step.record.kind 6)
-    where
-      go : Dec (step.record.kind < 6) → Ends
-      go (yes l) = end_is (kind_quiet (λ d. b ≡ end_of d) step.record h h h h some l n)
-      go (no l) = end_as _ (node_next step.record (omega arith)) h
-
-  -- until counts right only where 0 is in the shifted interval
-  end_until : (test v : Bool) → step.record.kind ≡ 7
-      → test ≡ inside (shifted (interval_in step) step.shift) step.here step.here
-      → v ≡ value step.m (form_in step.m forms step.record.right) (bit setting) → b ≡ (test && v) → Ends
-  unfolding end_value entry_in interval_in
-  end_until test v e i h q = end_as _ (node_until step.record e) (q ∙ ap₂ ◌&&◌ i h)
-
-  pub end_inside : (test : Bool) → step.record.kind ≡ 7
-      → test ≡ inside (shifted (interval_in step) step.shift) step.here step.here → test ≡ true
-      → b ≡ value step.m (form_in step.m forms step.record.right) (bit setting) → Ends
-  end_inside test e i t h = end_until test b e i h (ap (λ x. x && b) (sym t))
-
-  pub end_outside : (test : Bool) → step.record.kind ≡ 7
-      → test ≡ inside (shifted (interval_in step) step.shift) step.here step.here → test ≡ false
-      → b ≡ false → Ends
-  end_outside test e i t h =
-      let v : Bool = value step.m (form_in step.m forms step.record.right) (bit setting) in
-      end_until test v e i refl (h ∙ ap (λ x. x && v) (sym t))
-
-  pub end_past : 8 ≤ step.record.kind
-      → b ≡ value step.m (form_in step.m past (step.first + step.shift)) (bit setting) → Ends
-  unfolding end_value
-  end_past a h = end_is (kind_past (λ d. b ≡ end_of d) step.record h h a)
-
 -- a setting with the value of one parameter more
 pub with_true : (setting p : ℕ) (b : Bool) → p < 64 → b ≡ true → (t : ℕ)
     → bit (bit_or setting ((1 * 2 ^ p) % 2 ^ 64)) t ≡ (bit setting t || (b && eqb p t))
 with_true setting p b h e t =
     bit_or_lem setting ((1 * 2 ^ p) % 2 ^ 64) t
     ∙ ap₂ (λ x y. bit setting t || (x && y)) (sym e) (ap (λ x. bit x t) (one_shl p h) ∙ bit_pow p t)
-
-pub with_false : (setting p : ℕ) (b : Bool) → b ≡ false → (t : ℕ) → bit setting t ≡ (bit setting t || (b && eqb p t))
-with_false setting p b e t = sym (ap (λ x. bit setting t || (x && eqb p t)) e ∙ or-false (bit setting t))
 
 module _ (m : ℕ) where
   -- past the rows the setting is false
@@ -158,13 +111,10 @@ module _ (step : Step) (fs : List ℕ) (k : ℕ) (ws : List ℕ) (setting : ℕ)
       settled_none step.m derived (made_of Derived step derived past forms (node_for step.record)) setting hs
 
   pub ends_more : (grown n r : ℕ) (b : Bool) → OfEnds step n fs k ws setting grown
-      → OfEnd (at_shift step n) fs k ws setting b
+      → (turn : Step) (byte : n < 256) → turn ≡ at_shift step n byte → OfEnd turn fs k ws setting b
       → ((t : ℕ) → bit r t ≡ (bit grown t || (b && eqb (step.first + n) t))) → OfEnds step (n + 1) fs k ws setting r
   unfolding made_of entry_in
-  ends_more grown n r b old new w past forms derived alone hp hf hl hs =
+  ends_more grown n r b old turn byte is new w past forms derived alone hp hf hl hs =
       settled_more step.m derived (made_of Derived step derived past forms (node_for step.record)) step.first
-      n grown r b hl (old past forms derived alone hp hf hl hs) (new past forms derived alone hp hf hs) w
-
-  pub ends_done : (r n count : ℕ) → OfEnds step n fs k ws setting r → n ≤ count → count ≤ n
-      → OfEnds step count fs k ws setting r
-  ends_done r n count h a b = subst (λ x. OfEnds step x fs k ws setting r) (le_antisymm a b) h
+      n grown r b hl (old past forms derived alone hp hf hl hs)
+      (subst (λ s. OfEnd s fs k ws setting b) is new past forms derived alone hp hf hs) w

@@ -7,12 +7,15 @@ use native.Mathlib.Numerals.{add-one}
 use native.Mathlib.Omega.{arith}
 use borrow.Author.Tests.{leb-true, leb-false, le-leb, lt-leb}
 use lib.Dec.{leb}
+use Rattle.std.specs.Prelude.{Option}
+use Rattle.std.specs.Bool.{then_some}
 use Rattle.meaning.specs.Interval.{between, onward, distance, inside, shifts, shifted, gone, to, moved}
 use Rattle.meaning.specs.Horizon.{Horizon, within, never, later}
 use Rattle.meaning.proofs.Intervals.{distance_same}
 use Rattle.rewriting.specs.declared.step.Interval.{Interval}
 use Rattle.rewriting.specs.Decode.{endless, interval_of, interval_for}
 use Rattle.rewriting.specs.Clauses.{EndlessClause}
+use Rattle.rewriting.specs.inside.Steps.{moved_of, Near}
 
 -- an interval, and whether it has no upper end
 module _ (v : Interval) (b : Bool) (tells : EndlessClause v b) where
@@ -36,25 +39,19 @@ module _ (v : Interval) (b : Bool) (tells : EndlessClause v b) where
 
   -- what a shift becomes
   module _ (n here other gap : ℕ) (is : gap ≡ distance here other) where
-    pub moved_before : b ≡ true → n + gap < v.low → to (n + gap) ≡ moved (interval_for v) n here other
+    pub moved_onward : b ≡ true → (j : ℕ) → j ≡ min (n + gap) v.low → to j ≡ moved (interval_for v) n here other
     unfolding moved
-    moved_before e h =
-        let q : n + gap ≡ min (n + gap) v.low = omega arith in
-        ap to (q ∙ ap (λ g. min (n + g) v.low) is) ∙ ap (λ x. moved x n here other) (sym (onward_is e))
+    moved_onward e j q = rw (onward_is e, ← is, q)
 
-    pub moved_low : b ≡ true → v.low ≤ n + gap → to v.low ≡ moved (interval_for v) n here other
+    pub moved_between : b ≡ false → (s : Option ℕ) → s ≡ then_some (leb (n + gap) v.high) (n + gap) → v.high < 256
+        → (moved_of s ≡ moved (interval_for v) n here other) × Near s
     unfolding moved
-    moved_low e h =
-        let q : v.low ≡ min (n + gap) v.low = omega arith in
-        ap to (q ∙ ap (λ g. min (n + g) v.low) is) ∙ ap (λ x. moved x n here other) (sym (onward_is e))
-
-    pub moved_on : b ≡ false → n + gap ≤ v.high → to (n + gap) ≡ moved (interval_for v) n here other
-    unfolding moved
-    moved_on e h = rw (between_is e, ← is, le-leb (n + gap) v.high h)
-
-    pub moved_past : b ≡ false → v.high < n + gap → gone ≡ moved (interval_for v) n here other
-    unfolding moved
-    moved_past e h = rw (between_is e, ← is, lt-leb (n + gap) v.high h)
+    moved_between e s q fits = rw (between_is e, ← is, q) (go (leb (n + gap) v.high) refl)
+      where
+        go : (t : Bool) → leb (n + gap) v.high ≡ t
+            → (moved_of (then_some t (n + gap)) ≡ cond t (to (n + gap)) gone) × Near (then_some t (n + gap))
+        go true h = (refl, omega (arith, leb-true (n + gap) v.high h))
+        go false h = (refl, tt)
 
   -- how many shifts there are
   pub shifts_onward : b ≡ true → v.low + 1 ≡ shifts (interval_for v)

@@ -3,8 +3,7 @@
 use mathlib.Core.Path.{◌≡◌, refl, sym, ap, ap₂, ◌∙◌, subst}
 use mathlib.Core.Bool.{Bool}
 use mathlib.Core.List.{List, ◌++◌}
-use Prim.Native.Nat.{ℕ, ◌+◌, ◌≤◌, ◌<◌}
-use native.Mathlib.Nat.{le_antisymm}
+use Prim.Native.Nat.{ℕ, ◌+◌, ◌<◌, ◌≤◌}
 use native.Mathlib.Numerals.{add-one}
 use native.Mathlib.Omega.{arith}
 use lib.ListN.{length}
@@ -21,11 +20,11 @@ use Rattle.meaning.proofs.Ending.{last_value}
 use Rattle.rewriting.specs.declared.step.Step.{Step}
 use Rattle.rewriting.specs.declared.step.Plan.{Plan}
 use Rattle.rewriting.specs.declared.step.Moment.{Moment}
-use Rattle.rewriting.specs.declared.step.Neighbour.TheVariants.{None}
+use Rattle.std.specs.Prelude.{None}
 use Rattle.rewriting.specs.Decode.{node_in, node_for, record_in}
 use Rattle.rewriting.specs.Known.{past_in, known_in, form_at}
 use Rattle.rewriting.specs.Plans.{rule_for, entry_for, read_in, Ready}
-use Rattle.rewriting.specs.inside.Steps.{neighbour_of, entry_in, row_by, made_of}
+use Rattle.rewriting.specs.inside.Steps.{entry_in, row_by, made_of}
 use Rattle.rewriting.specs.inside.Walks.{step_in}
 use Rattle.rewriting.specs.inside.Endings.{Settled, OfEnds, last_rows}
 use Rattle.rewriting.proofs.Rules.{length_rule_in, node_in_lem, record_node}
@@ -57,10 +56,12 @@ module _ (list : List ℕ) (plan : Plan) (last : Moment) (ws : List ℕ) where
 
   pub last_more : (fs : List ℕ) → Ready list plan fs ws → (k first c setting r : ℕ) (step : Step)
       → k < plan.records → first ≡ first_of (rule_for list plan) k → c ≡ count (node_in list k)
-      → step ≡ step_in list k first plan.m last None → Settled plan.m (last_rows list plan last ws k) setting
+      → (few : plan.m ≤ 12) (within : first ≤ 12)
+      → step ≡ step_in list k first plan.m last None few within
+      → Settled plan.m (last_rows list plan last ws k) setting
       → OfEnds step c fs k ws setting r → Settled plan.m (last_rows list plan last ws (k + 1)) r
-  unfolding made_of row_by neighbour_of entry_in
-  last_more fs ready k first c setting r step h e q is s ends =
+  unfolding made_of row_by entry_in
+  last_more fs ready k first c setting r step h e q few within is s ends =
       let m = plan.m in
       let rule = rule_for list plan in
       let rows = last_rows list plan last ws k in
@@ -76,11 +77,6 @@ module _ (list : List ℕ) (plan : Plan) (last : Moment) (ws : List ℕ) where
       (tidy_held plan.places m ws ready.2 ready.0.few)
       (forms_held m rule k plan.records fs (omega arith) ready.1)
       (length_last_rows list plan last ws k ∙ sym e) s)
-
-  pub last_done : (k setting : ℕ) → Settled plan.m (last_rows list plan last ws k) setting → k ≤ plan.records
-      → plan.records ≤ k → Settled plan.m (last_rows list plan last ws plan.records) setting
-  last_done k setting s a b =
-      subst (λ x. Settled plan.m (last_rows list plan last ws x) setting) (le_antisymm a b) s
 
 -- the remainder's value under that setting
 pub last_valued : (list : List ℕ) (plan : Plan) (last : Moment) (ws : List ℕ) (setting : ℕ) (b : Bool)

@@ -1,9 +1,9 @@
+pub mod Ranges
 pub mod Ends
 pub mod Shifts
 pub mod Neighbours
 pub mod ByKind
 pub mod Nodes
-pub mod RecordForms
 pub mod Rules
 pub mod Counting
 pub mod Placed

@@ -4,7 +4,7 @@ use mathlib.Core.Path.{◌≡◌, ap, subst}
 use mathlib.Core.Logic.{◌⊎◌, inl, inr}
 use mathlib.Core.List.{List}
 use Prim.Native.Nat.{ℕ, ◌+◌, ◌*◌, ◌≤◌, ◌<◌}
-use native.Mathlib.Nat.{le_antisymm, le_refl}
+use native.Mathlib.Nat.{le_refl}
 use native.Mathlib.Omega.{arith}
 use lib.ListN.{length}
 use Rattle.forms.specs.Form.{Form}
@@ -19,7 +19,7 @@ use Rattle.rewriting.specs.declared.step.Step.{Step}
 use Rattle.rewriting.specs.Known.{words_for}
 use Rattle.rewriting.specs.inside.Steps.{entry_in, own_at, other_at, Kept, row_by, made_of, OfMade}
 use Rattle.rewriting.specs.inside.Walks.{Apart, made_row, Puts, table_of}
-use Rattle.rewriting.proofs.Nodes.{at_shift}
+use Rattle.rewriting.specs.inside.Steps.{at_shift}
 use Rattle.rewriting.proofs.Written.{wrote_none, wrote_more, held_kept}
 
 -- their place is no later than the scratch, the area has room for them, and they lie apart from the others
@@ -45,13 +45,14 @@ module _ (row : Row) (step : Step) (fs : List ℕ) (k : ℕ) (ws : List ℕ) (sc
 
   pub puts_more : (count n base : ℕ) (area next made : List ℕ) → Apart step count scratch held → n < count
       → base ≡ own_at row scratch → Puts row step n fs k ws scratch held area
-      → OfMade row (at_shift step n) fs k area scratch held made
+      → (turn : Step) (byte : n < 256) → turn ≡ at_shift step n byte → OfMade row turn fs k area scratch held made
       → next ≡ put_rows area (base + step.first + n) 1 (λ _. made)
       → Puts row step (n + 1) fs k ws scratch held next
   unfolding made_row made_of entry_in
-  puts_more count n base area next made apart less e old new q own other forms h hf =
+  puts_more count n base area next made apart less e old turn byte is new q own other forms h hf =
       wrote_more ws at rows n (base + step.first + n) area next made put
-      (ap (λ x. x + step.first + n) e) q (new own other forms kept hf)
+      (ap (λ x. x + step.first + n) e) q
+      (subst (λ s. OfMade row s fs k area scratch held made) is new own other forms kept hf)
     where
       at : ℕ
       at = own_at row scratch + step.first
@@ -72,10 +73,6 @@ module _ (row : Row) (step : Step) (fs : List ℕ) (k : ℕ) (ws : List ℕ) (sc
             (rows_apart row scratch held at n apart.before (omega arith) (omega (arith, apart.behind)))
             h.theirs;
       }
-
-  pub puts_done : (n count : ℕ) (area : List ℕ) → Puts row step n fs k ws scratch held area → n ≤ count → count ≤ n
-      → Puts row step count fs k ws scratch held area
-  puts_done n count area h a b = subst (λ x. Puts row step x fs k ws scratch held area) (le_antisymm a b) h
 
 -- a rule's rows: those of more records begin with those of fewer, and each is made from them
 pub length_table : (row : Row) (m : ℕ) (rule : List Node) (other : List (Form m)) (e : Entry) (near : Neighbour)

@@ -1,103 +1,87 @@
--- The equations of a step, with a neighbouring record and with none.
+-- The rows that look at the record beside: none where there is no such record.
 -- Assumes nothing.
-use mathlib.Core.Path.{◌≡◌, sym, ap, ◌∙◌}
-use mathlib.Core.Bool.{Bool, false}
+use mathlib.Core.Path.{◌≡◌, refl, sym, ap, ◌∙◌}
+use mathlib.Core.Bool.{false}
 use mathlib.Core.List.{List}
-use Prim.Native.Nat.{ℕ}
-use Rattle.forms.specs.Form.{Form, constant, and}
-use Rattle.forms.specs.Words.{pack}
+use Prim.Native.Nat.{ℕ, ◌+◌}
+use Rattle.std.specs.Prelude.{Option, None, Some}
+use Rattle.forms.specs.Form.{Form, constant, parameter, and}
 use Rattle.forms.specs.Area.{form_in}
-use Rattle.meaning.specs.Interval.{Moved, inside, moved}
-use Rattle.meaning.specs.Rewriting.{put, only_if, parameter_to, row_to, next_row, until_later, Neighbour}
+use Rattle.forms.proofs.Depends.{put_in_constant}
+use Rattle.meaning.specs.Interval.{Interval}
+use Rattle.meaning.specs.Rewriting.{put, only_if, parameter_to, row_to, next_row, until_later}
 use Rattle.meaning.specs.Rewriting.{previous_row, since_earlier}
-use Rattle.rewriting.specs.declared.step.Step.{Step}
-use Rattle.rewriting.specs.declared.step.Neighbour.TheVariants.{None, At}
-use Rattle.rewriting.specs.inside.Steps.{neighbour_of, interval_in, later_of, previous_of, earlier_of}
+use Rattle.rewriting.specs.inside.Steps.{neighbour_of, in_interval, moved_by, moved_of}
+use Rattle.rewriting.proofs.Shifts.{and_nothing}
 
--- the same row under an equal test
-pub test_same : (m : ℕ) (b b' : Bool) (f : Form m) (r : List ℕ) → b ≡ b' → r ≡ pack m (only_if m b f)
-    → r ≡ pack m (only_if m b' f)
-test_same m b b' f r e h = h ∙ ap (λ t. pack m (only_if m t f)) e
+module _ (m : ℕ) (forms : List (Form m)) (left : ℕ) (v : Interval) (here : ℕ) where
+  pub next_beside : (near : Option ℕ)
+      → only_if m (in_interval v here near) (form_in m forms left)
+      ≡ next_row m forms left v here (neighbour_of near)
+  unfolding next_row only_if
+  next_beside None = refl
+  next_beside (Some other) = refl
 
-abbrev later_with : (step : Step) → (forms derived : List (Form step.m)) → Neighbour → Form step.m
-later_with step forms derived neighbour =
-    until_later step.m forms derived step.first step.record.left (interval_in step) step.shift step.here
-    neighbour
+  pub previous_beside : (derived past : List (Form m)) (near : Option ℕ)
+      → only_if m (in_interval v here near) (put m (put m (form_in m forms left) derived) past)
+      ≡ previous_row m forms derived past left v here (neighbour_of near)
+  unfolding previous_row only_if
+  previous_beside derived past None = refl
+  previous_beside derived past (Some other) = refl
 
-abbrev previous_with : (step : Step) → (forms derived past : List (Form step.m)) → Neighbour → Form step.m
-previous_with step forms derived past neighbour =
-    previous_row step.m forms derived past step.record.left (interval_in step) step.here neighbour
+  module _ (derived : List (Form m)) (first shift : ℕ) (near s : Option ℕ)
+      (is : moved_of s ≡ moved_by v shift here near) where
+    later_moved : (near : Option ℕ)
+        → and m (put m (form_in m forms left) derived) (parameter_to m first (moved_by v shift here near))
+        ≡ until_later m forms derived first left v shift here (neighbour_of near)
+    unfolding until_later parameter_to
+    later_moved None = and_nothing m _
+    later_moved (Some other) = refl
 
-abbrev earlier_with : (step : Step) → (forms derived past : List (Form step.m)) → Neighbour → Form step.m
-earlier_with step forms derived past neighbour =
-    since_earlier step.m forms derived past step.first step.record.left (interval_in step) step.shift
-    step.here neighbour
+    pub later_gone : s ≡ None
+        → constant m false ≡ until_later m forms derived first left v shift here (neighbour_of near)
+    unfolding parameter_to
+    later_gone e =
+        sym (and_nothing m _)
+        ∙ ap (λ t. and m (put m (form_in m forms left) derived) (parameter_to m first t)) (sym (ap moved_of e) ∙ is)
+        ∙ later_moved near
 
-abbrev pub next_with : (step : Step) → (m : ℕ) → List (Form m) → Neighbour → Form m
-next_with step m forms neighbour =
-    next_row m forms step.record.left (interval_in step) step.here neighbour
+    pub later_to : (n : ℕ) → s ≡ Some n
+        → and m (put m (form_in m forms left) derived) (parameter m (first + n))
+        ≡ until_later m forms derived first left v shift here (neighbour_of near)
+    unfolding parameter_to
+    later_to n e =
+        ap (λ t. and m (put m (form_in m forms left) derived) (parameter_to m first t)) (sym (ap moved_of e) ∙ is)
+        ∙ later_moved near
 
-module _ (step : Step) (r : List ℕ) where
-  module _ (m : ℕ) (forms : List (Form m)) where
-    pub next_none : step.neighbour ≡ None → r ≡ pack m (constant m false)
-        → r ≡ pack m (next_with step m forms (neighbour_of step.neighbour))
-    unfolding next_row neighbour_of
-    next_none e h =
-        h ∙ ap (λ b. pack m (next_with step m forms (neighbour_of b))) (sym e)
+    module _ (past : List (Form m)) where
+      nothing_put : (rows : List (Form m)) (f : Form m)
+          → and m f (put m (constant m false) rows) ≡ constant m false
+      unfolding put
+      nothing_put rows f = ap (and m f) (put_in_constant m m false _) ∙ and_nothing m f
 
-    pub next_at : (other : ℕ) (b : Bool) → step.neighbour ≡ At other
-        → b ≡ inside (interval_in step) step.here other
-        → r ≡ pack m (only_if m b (form_in m forms step.record.left))
-        → r ≡ pack m (next_with step m forms (neighbour_of step.neighbour))
-    unfolding next_row neighbour_of
-    next_at other b e i h =
-        h ∙ ap (λ b'. pack m (only_if m b' (form_in m forms step.record.left))) i
-        ∙ ap (λ n. pack m (next_with step m forms (neighbour_of n))) (sym e)
+      earlier_moved : (near : Option ℕ)
+          → and m (put m (form_in m forms left) past)
+          (put m (row_to m derived first (moved_by v shift here near)) past)
+          ≡ since_earlier m forms derived past first left v shift here (neighbour_of near)
+      unfolding since_earlier row_to
+      earlier_moved None = nothing_put past _
+      earlier_moved (Some other) = refl
 
-  module _ (forms derived : List (Form step.m)) where
-    pub later_none : step.neighbour ≡ None → r ≡ pack step.m (constant step.m false)
-        → r ≡ pack step.m (later_of step forms derived)
-    unfolding later_of until_later neighbour_of
-    later_none e h = h ∙ ap (λ n. pack step.m (later_with step forms derived (neighbour_of n))) (sym e)
+      pub earlier_gone : s ≡ None
+          → constant m false ≡ since_earlier m forms derived past first left v shift here (neighbour_of near)
+      unfolding row_to
+      earlier_gone e =
+          sym (nothing_put past _)
+          ∙ ap (λ t. and m (put m (form_in m forms left) past) (put m (row_to m derived first t) past))
+          (sym (ap moved_of e) ∙ is)
+          ∙ earlier_moved near
 
-    pub later_at : (other : ℕ) (to' : Moved) → step.neighbour ≡ At other
-        → to' ≡ moved (interval_in step) step.shift step.here other
-        → r ≡ pack step.m (and step.m (put step.m (form_in step.m forms step.record.left) derived)
-        (parameter_to step.m step.first to')) → r ≡ pack step.m (later_of step forms derived)
-    unfolding later_of until_later neighbour_of
-    later_at other to' e i h =
-        let left = put step.m (form_in step.m forms step.record.left) derived in
-        h ∙ ap (λ v. pack step.m (and step.m left (parameter_to step.m step.first v))) i
-        ∙ ap (λ n. pack step.m (later_with step forms derived (neighbour_of n))) (sym e)
-
-  module _ (forms derived past : List (Form step.m)) where
-    pub previous_none : step.neighbour ≡ None → r ≡ pack step.m (constant step.m false)
-        → r ≡ pack step.m (previous_of step forms derived past)
-    unfolding previous_of previous_row neighbour_of
-    previous_none e h = h ∙ ap (λ n. pack step.m (previous_with step forms derived past (neighbour_of n))) (sym e)
-
-    pub previous_at : (other : ℕ) (b : Bool) → step.neighbour ≡ At other
-        → b ≡ inside (interval_in step) step.here other
-        → r ≡ pack step.m (only_if step.m b
-        (put step.m (put step.m (form_in step.m forms step.record.left) derived) past))
-        → r ≡ pack step.m (previous_of step forms derived past)
-    unfolding previous_of previous_row neighbour_of
-    previous_at other b e i h =
-        test_same step.m b _ _ r i h
-        ∙ ap (λ n. pack step.m (previous_with step forms derived past (neighbour_of n))) (sym e)
-
-    pub earlier_none : step.neighbour ≡ None → r ≡ pack step.m (constant step.m false)
-        → r ≡ pack step.m (earlier_of step forms derived past)
-    unfolding earlier_of since_earlier neighbour_of
-    earlier_none e h = h ∙ ap (λ n. pack step.m (earlier_with step forms derived past (neighbour_of n))) (sym e)
-
-    pub earlier_at : (other : ℕ) (to' : Moved) → step.neighbour ≡ At other
-        → to' ≡ moved (interval_in step) step.shift step.here other
-        → r ≡ pack step.m (and step.m (put step.m (form_in step.m forms step.record.left) past)
-        (put step.m (row_to step.m derived step.first to') past))
-        → r ≡ pack step.m (earlier_of step forms derived past)
-    unfolding earlier_of since_earlier neighbour_of
-    earlier_at other to' e i h =
-        h ∙ ap (λ v. pack step.m (and step.m (put step.m (form_in step.m forms step.record.left) past)
-        (put step.m (row_to step.m derived step.first v) past))) i
-        ∙ ap (λ n. pack step.m (earlier_with step forms derived past (neighbour_of n))) (sym e)
+      pub earlier_to : (n : ℕ) → s ≡ Some n
+          → and m (put m (form_in m forms left) past) (put m (form_in m derived (first + n)) past)
+          ≡ since_earlier m forms derived past first left v shift here (neighbour_of near)
+      unfolding row_to
+      earlier_to n e =
+          ap (λ t. and m (put m (form_in m forms left) past) (put m (row_to m derived first t) past))
+          (sym (ap moved_of e) ∙ is)
+          ∙ earlier_moved near

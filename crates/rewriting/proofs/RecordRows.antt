@@ -8,7 +8,6 @@ use Prim.Native.Nat.{ℕ, suc, ◌+◌, ◌-◌, ◌*◌, ◌%◌, ◌^◌, ◌�
 use native.Mathlib.Nat.{lt_of_lt_of_le}
 use native.Mathlib.Numerals.{add-one}
 use native.Mathlib.Omega.{arith}
-use borrow.Author.Count.{below_more}
 use borrow.Author.Tests.{lt-leb, lt-ltb, le-ltb}
 use lib.Bits.{bit_or, or_lt}
 use lib.Dec.{leb, ltb}
@@ -29,24 +28,21 @@ use Rattle.meaning.specs.Rule.{Node, node_at, count, first_of, Entry}
 use Rattle.meaning.proofs.Blocks.{first_of_fits}
 use Rattle.rewriting.specs.declared.step.Moment.{Moment}
 use Rattle.rewriting.specs.declared.step.Plan.{Plan}
-use Rattle.rewriting.specs.declared.step.Record.{Record}
-use Rattle.rewriting.specs.Decode.{byte_of, node_in, node_for}
+use Rattle.rewriting.specs.Decode.{node_in, node_for}
 use Rattle.rewriting.specs.Known.{form_at, past_in}
 use Rattle.rewriting.specs.Plans.{Sound, rule_for, entry_for}
-use Rattle.rewriting.proofs.ByKind.{by_kind, kind_future, kind_past}
 use Rattle.rewriting.proofs.Rules.{length_rule_in, node_in_lem}
 use Rattle.rewriting.specs.declared.shape.Here.{Here}
 use Rattle.rewriting.specs.Shape.{looks_forward, forward, wrong_row, wrong_at, wrong_rows}
 use Rattle.rewriting.specs.inside.Shapes.{Before, Tells, Placed, Fitting, widened}
-use Rattle.rewriting.specs.inside.Shapes.{RowWrong, RecordWrong}
 
 -- a row that fits is that of its form
-pub row_is : (m : ℕ) (row : List ℕ) → length row ≡ 64 → ((i : ℕ) → Fits w64 (get_or row i 0)) → fits m row ≡ true
+row_is : (m : ℕ) (row : List ℕ) → length row ≡ 64 → ((i : ℕ) → Fits w64 (get_or row i 0)) → fits m row ≡ true
     → row ≡ pack m (unpack m row)
 row_is m row long small e = pack_unpack m row (words_of_lem 64 row long (λ i h. (small i).fits)) e
 
 -- a row that was loaded fits
-pub row_fits : (m : ℕ) (ws : List ℕ) (j : ℕ) (row : List ℕ) → Fitting m ws → j < m → row ≡ row_at ws j
+row_fits : (m : ℕ) (ws : List ℕ) (j : ℕ) (row : List ℕ) → Fitting m ws → j < m → row ≡ row_at ws j
     → fits m row ≡ true
 row_fits m ws j row all h e = ap (fits m) e ∙ all j h
 
@@ -55,34 +51,18 @@ past_form : (m : ℕ) (ws : List ℕ) (j : ℕ) → j < m → form_in m (past_in
 unfolding past_in form_at
 past_form m ws j h = get_d_tab m (form_at m ws) j _ h
 
--- the rows of a record's first n shifts are as they must be
-abbrev pub RightTo : Here → (m : ℕ) → Moment → List ℕ → ℕ → Type 0
-RightTo here m last ws n =
-    (rule : List Node) (k : ℕ) → Tells rule k here → (j : ℕ) → j < n
-    → wrong_row rule m (entry_for last) k j (node_at rule k) (form_in m (past_in m ws) (first_of rule k + j)) ≡ false
-
--- what the loop over a record's shifts finds
-module _ (here : Here) (m : ℕ) (last : Moment) (ws : List ℕ) (placed : Placed m here) where
-  module _ (n : ℕ) (row : List ℕ) (r : Bool) (h : n < here.count) (e : row ≡ row_at ws (here.first + n))
-      (w : RowWrong here n m last row r) where
-    tested : (rule : List Node) (k : ℕ) → Tells rule k here
-        → r ≡ wrong_row rule m (entry_for last) k n (node_at rule k) (form_in m (past_in m ws) (first_of rule k + n))
-    tested rule k t =
-        w rule k t
-        ∙ ap (wrong_row rule m (entry_for last) k n (node_at rule k))
-        (ap (unpack m) e ∙ sym (past_form m ws (here.first + n) (omega (arith, placed.within)))
-        ∙ ap (λ x. form_in m (past_in m ws) (x + n)) t.before.starts)
-
-    pub shift_wrong : r ≡ true → RecordWrong here m last ws true
-    shift_wrong q rule k t =
-        sym (some_at (count (node_at rule k)) _ n (subst (λ x. n < x) t.counts h) (sym (tested rule k t) ∙ q))
-
-    pub shift_right : r ≡ false → RightTo here m last ws n → RightTo here m last ws (n + 1)
-    shift_right q before rule k t = below_more _ n (before rule k t) (sym (tested rule k t) ∙ q)
-
-  pub shifts_right : (n : ℕ) → here.count ≤ n → RightTo here m last ws n → RecordWrong here m last ws false
-  shifts_right n h before rule k t =
-      sym (some_none (count (node_at rule k)) _ (λ j l. before rule k t j (omega (arith, t.counts))))
+-- the row of a record's shift
+module _ (here : Here) (m : ℕ) (last : Moment) (ws : List ℕ) (placed : Placed m here) (n : ℕ) (row : List ℕ)
+    (h : n < here.count) (e : row ≡ row_at ws (here.first + n)) where
+  pub tested : Fitting m ws → length row ≡ 64 → ((i : ℕ) → Fits w64 (get_or row i 0)) → (rule : List Node) (k : ℕ)
+      → Tells rule k here → (r : Bool)
+      → (row ≡ pack m (unpack m row) → r ≡ wrong_row rule m (entry_for last) k n (node_at rule k) (unpack m row))
+      → r ≡ wrong_row rule m (entry_for last) k n (node_at rule k) (form_in m (past_in m ws) (first_of rule k + n))
+  tested all long small rule k t r w =
+      w (row_is m row long small (row_fits m ws (here.first + n) row all (omega (arith, placed.within)) e))
+      ∙ ap (wrong_row rule m (entry_for last) k n (node_at rule k))
+      (ap (unpack m) e ∙ sym (past_form m ws (here.first + n) (omega (arith, placed.within)))
+      ∙ ap (λ x. form_in m (past_in m ws) (x + n)) t.before.starts)
 
 -- the parameters of a record, as bits
 own_bits : (first own p : ℕ) → bit ((2 ^ own - 1) * 2 ^ first) p ≡ (leb first p && ltb p (first + own))
@@ -98,36 +78,18 @@ own_bits first own p =
     (less_or_not (p - first) own)))
     (less_or_not p first)
 
--- the code's 1 << own is not zero
-pub one_some : (own : ℕ) → own < 64 → 1 ≤ (1 * 2 ^ own) % 2 ^ 64
-one_some own h = omega (arith, one_shl own h, pow_pos own)
-
--- which kinds look forward
-forward_not : (d : Record) → 1 ≤ d.kind → d.kind < 6 → looks_forward (node_for d) ≡ false
-unfolding looks_forward
-forward_not d h l =
-    by_kind (λ x. looks_forward x ≡ false) d (λ q. refl) (λ q. refl) (λ q. refl) (λ q. refl) (λ q. refl)
-    (λ q. absurd (omega (arith, q))) (λ q. absurd (omega (arith, q))) (λ q. refl) (λ o. refl)
-
 -- what rows of the next record may name
 module _ (here : Here) (m : ℕ) (placed : Placed m here) where
-  kept : looks_forward (node_for here.record) ≡ false → here.allowed ≡ widened here
+  pub widen_kept : looks_forward (node_for here.record) ≡ false → here.allowed ≡ widened here
   unfolding widened
-  kept e =
+  widen_kept e =
       same_bits 12 here.allowed _ placed.bits (of_bits_lt 12 _)
       (λ p h. sym (bit_of_bits 12 _ p h ∙ rw e (or-false (bit here.allowed p))))
 
-  pub widen_before : here.record.kind < 6 → here.allowed ≡ widened here
-  widen_before h = kept (forward_not here.record placed.kind h)
-
-  pub widen_after : 8 ≤ here.record.kind → here.allowed ≡ widened here
-  unfolding looks_forward
-  widen_after h = kept (kind_past (λ d. looks_forward d ≡ false) here.record refl refl h)
-
-  pub widen_own : 6 ≤ here.record.kind → here.record.kind < 8
+  pub widen_own : looks_forward (node_for here.record) ≡ true
       → bit_or here.allowed ((((1 * 2 ^ here.count) % 2 ^ 64 - 1) * 2 ^ here.first) % 2 ^ 64) ≡ widened here
-  unfolding widened looks_forward
-  widen_own h l =
+  unfolding widened
+  widen_own looks =
       ap (bit_or here.allowed)
       (ap (λ x. ((x - 1) * 2 ^ here.first) % 2 ^ 64) (one_shl here.count (omega arith))
       ∙ shl_exact here.count here.first 64 less (omega arith))
@@ -148,9 +110,6 @@ module _ (here : Here) (m : ℕ) (placed : Placed m here) where
 
       less : 2 ^ here.count - 1 < 2 ^ here.count
       less = omega (arith, pow_pos here.count)
-
-      looks : looks_forward (node_for here.record) ≡ true
-      looks = kind_future (λ d. looks_forward d ≡ true) here.record refl refl h l
 
 -- what is counted before the first record, and before the next
 pub before_none : (rule : List Node) → Before rule 0 0 0
@@ -194,14 +153,13 @@ module _ (list : List ℕ) (plan : Plan) where
       record { node = node ∙ e; counts = counts ∙ ap count e; before = before }
 
   pub placed : Sound list plan → (k : ℕ) (here : Here) → k < plan.records → Tells (rule_for list plan) k here
-      → here.record.kind ≡ byte_of list k 0 → Placed plan.m here
+      → Placed plan.m here
   unfolding first_of
-  placed sound k here h t kind =
+  placed sound k here h t =
       record {
         few = omega (arith, sound.few, sound.room);
         within =
             omega (arith, t.before.starts, t.counts, sound.own, first_of_fits (rule_for list plan) (suc k));
-        kind = subst (λ x. 1 ≤ x) (sym kind) (sound.kinds k h);
         bits = subst (λ x. x < 2 ^ 12) (sym t.before.allows) (of_bits_lt 12 _);
       }
 

@@ -14,12 +14,11 @@ use Rattle.meaning.specs.Rewriting.{none, at, put, derived_rows, past_rows}
 use Rattle.meaning.specs.Words.{leave, feed}
 use Rattle.meaning.proofs.Blocks.{length_derived_rows, length_past_rows}
 use Rattle.rewriting.specs.declared.row.Row.TheVariants.{Derived, Past}
-use Rattle.rewriting.specs.declared.step.Neighbour.TheVariants.{None, At}
+use Rattle.std.specs.Prelude.{None, Some}
 use Rattle.rewriting.specs.declared.step.Plan.{Plan}
 use Rattle.rewriting.specs.declared.step.Moment.{Moment}
 use Rattle.rewriting.specs.Known.{form_at, past_in, known_in, Tidy}
 use Rattle.rewriting.specs.Plans.{rule_for, entry_for, read_in, area_with, Sound, form_row}
-use Rattle.rewriting.specs.inside.Steps.{neighbour_of}
 use Rattle.rewriting.specs.inside.Walks.{table_of, Walked}
 use Rattle.rewriting.proofs.Rules.{length_rule_in}
 use Rattle.rewriting.proofs.Placed.{tidy_held}
@@ -42,7 +41,7 @@ module _ (list : List ℕ) (plan : Plan) (sound : Sound list plan) where
     pub first_done : (b c : List ℕ) → Walked Past list plan new None 0 ws b
         → c ≡ put_rows b (plan.places + 1) (plan.places + 1) (λ _. replicate 64 0)
         → c ≡ area_with plan (leave plan.m (rule_for list plan) (form_at plan.m ws plan.places) (entry_for new))
-    unfolding table_of neighbour_of
+    unfolding table_of
     first_done b c p q =
         first_laid plan.places plan.m ws tidy sound.few
         (past_rows plan.m (rule_for list plan) [] (entry_for new) none (length (rule_for list plan))) b c
@@ -56,13 +55,13 @@ module _ (list : List ℕ) (plan : Plan) (sound : Sound list plan) where
 
     -- from the steps of a later record
     pub feed_done : (last : Moment) (a l rest b c d : List ℕ)
-        → Walked Derived list plan last (At new.time) plan.m ws a
+        → Walked Derived list plan last (Some new.time) plan.m ws a
         → l ≡ row_at a plan.places → WithRows l a (plan.places + 1) plan.m rest
         → b ≡ put_rows a plan.places 1 (λ _. rest)
-        → Walked Past list plan new (At last.time) plan.m b c
+        → Walked Past list plan new (Some last.time) plan.m b c
         → d ≡ put_rows c (plan.places + 1) (plan.places + 1) (λ _. replicate 64 0)
         → d ≡ area_with plan (feed plan.m (rule_for list plan) (read_in plan ws last) (entry_for new))
-    unfolding feed known_in put table_of neighbour_of
+    unfolding feed known_in put table_of
     feed_done last a l rest b c d p load h q r clear =
         feed_laid places m ws tidy sound.few derived a long_derived made remainder b stored past c d
         (length_past_rows m rule derived (entry_for new) (at last.time) (length rule) ∙ plan_firsts)

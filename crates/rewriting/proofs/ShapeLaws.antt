@@ -6,24 +6,25 @@ use mathlib.Core.Logic.{⊎_elim}
 use mathlib.Core.List.{List}
 use Prim.Native.Nat.{ℕ, ◌+◌, ◌^◌, ◌≤◌, ◌<◌}
 use native.Mathlib.Omega.{arith}
-use borrow.Author.Tests.{eq-eqb, ne_eqb, eqb-true}
+use borrow.Author.Tests.{eq-eqb, ne_eqb}
 use lib.Bits.{bit_or, or_lt}
 use lib.Dec.{eqb}
-use lib.ListN.{length, get_or}
-use lib.Seq.{ext_get_or}
-use Rattle.ground.specs.Fold.{every, some}
+use lib.Pointwise.{pointwise, bytes_decides}
+use Rattle.ground.specs.Fold.{some}
 use Rattle.ground.specs.Bits.{bit, of_bits}
-use Rattle.ground.proofs.Folds.{fold_cong, less_or_not, every_all, every_at, some_none, none_at}
+use Rattle.ground.proofs.Folds.{fold_cong, less_or_not, some_none, none_at}
 use Rattle.ground.proofs.Bits.{bit_or_lem, bit_above}
 use Rattle.ground.proofs.Numbers.{same_bits, of_bits_lt, bit_of_bits}
 use Rattle.forms.specs.Form.{Form, constant, parameter, has, names, same}
 use Rattle.forms.specs.Words.{pack, unpack}
-use Rattle.forms.proofs.Packing.{pack_words, pack_inj}
+use Rattle.forms.proofs.Packing.{pack_inj}
 use Rattle.forms.proofs.Reading.{same_refl, same_eq}
+use Rattle.meaning.proofs.Ranges.{same_truth}
 use Rattle.meaning.specs.Rule.{Node, node_at, first_of, holds}
 use Rattle.rewriting.specs.declared.step.Moment.{Moment}
 use Rattle.rewriting.specs.Plans.{entry_for}
-use Rattle.rewriting.proofs.ByKind.{kind_quiet, kind_future, kind_past, node_signal}
+use Rattle.rewriting.proofs.ByKind.{Quiet, Future, Past, is_kind, kind_quiet, kind_future, kind_past}
+use Rattle.rewriting.specs.declared.kind.Kind.TheVariants.{Signal}
 use Rattle.rewriting.specs.declared.shape.Here.{Here}
 use Rattle.rewriting.specs.Shape.{forward, names_other, wrong_row}
 use Rattle.rewriting.specs.inside.Shapes.{Tells}
@@ -87,35 +88,14 @@ names_other_lem m f named allowed few h e =
     ∙ some_low m 12 (λ p. names m f p && not (bit allowed p)) few
     (λ p l. ap (λ b. b && not (bit allowed p)) (names_low m f p l))
 
--- rows with the same words are those of the same form
-pub same_words : (m : ℕ) (f g : Form m) → m ≤ 12 → (a b : List ℕ) → a ≡ pack m f → b ≡ pack m g
-    → every 64 (λ i. eqb (get_or a i 0) (get_or b i 0)) ≡ same m f g
-same_words m f g few a b ea eb = go (same m f g) refl
-  where
-    words : ℕ → Bool
-    words i = eqb (get_or a i 0) (get_or b i 0)
-
-    long : (l : List ℕ) (h : Form m) → l ≡ pack m h → length l ≡ 64
-    long l h e = ap length e ∙ (pack_words m h).long
-
-    form : every 64 words ≡ true → f ≡ g
-    form e =
-        pack_inj m f g few
-        (sym ea
-        ∙ ext_get_or 0 a b (long a f ea ∙ sym (long b g eb))
-        (λ i h. eqb-true _ _ (every_at 64 words e i (omega (arith, long a f ea))))
-        ∙ eb)
-
-    differ : (t : Bool) → every 64 words ≡ t → same m f g ≡ false → every 64 words ≡ false
-    differ true e q = absurd (true≢false (sym (same_refl m f) ∙ ap (same m f) (form e) ∙ q))
-    differ false e q = e
-
-    go : (t : Bool) → same m f g ≡ t → every 64 words ≡ same m f g
-    go true e =
-        every_all 64 words
-        (λ i h. eq-eqb _ _ (ap (λ l. get_or l i 0) (ea ∙ ap (pack m) (same_eq m f g e) ∙ sym eb)))
-        ∙ sym e
-    go false e = differ (every 64 words) refl e ∙ sym e
+-- rows are equal exactly if they are those of the same form
+same_row : (m : ℕ) (f g : Form m) → m ≤ 12 → (a b : List ℕ) → a ≡ pack m f → b ≡ pack m g
+    → pointwise eqb a b ≡ same m f g
+same_row m f g few a b ea eb =
+    same_truth _ _
+    (λ e.
+    ap (same m f) (sym (pack_inj m f g few (sym ea ∙ (bytes_decides a b).0 e ∙ eb))) ∙ same_refl m f)
+    (λ e. (bytes_decides a b).1 (ea ∙ ap (pack m) (same_eq m f g e) ∙ sym eb))
 
 -- the row of a record's shift, by the record's kind
 module _ (here : Here) (n m : ℕ) (last : Moment) (row : List ℕ) (few : m ≤ 12)
@@ -124,41 +104,39 @@ module _ (here : Here) (n m : ℕ) (last : Moment) (row : List ℕ) (few : m ≤
   wrong d = wrong_row rule m (entry_for last) k n d (unpack m row)
 
   -- the words of a wanted row are compared
-  compared : (want : List ℕ) (g : Form m) (r : Bool) → want ≡ pack m g
-      → r ≡ every 64 (λ i. eqb (get_or row i 0) (get_or want i 0)) → not r ≡ not (same m (unpack m row) g)
-  compared want g r e q = ap not (q ∙ same_words m (unpack m row) g few row want is e)
+  compared : (want : List ℕ) (g : Form m) (r : Bool) → want ≡ pack m g → r ≡ not (pointwise eqb row want)
+      → r ≡ not (same m (unpack m row) g)
+  compared want g r e q = q ∙ ap not (same_row m (unpack m row) g few row want is e)
 
-  pub wrong_signal : (b r : Bool) (want : List ℕ) → here.record.kind ≡ 3
-      → b ≡ bit last.signals here.record.left → want ≡ pack m (constant m b)
-      → r ≡ every 64 (λ i. eqb (get_or row i 0) (get_or want i 0)) → not r ≡ wrong (node_at rule k)
+  pub wrong_signal : (b r : Bool) (want : List ℕ) → here.record.kind ≡ Signal
+      → b ≡ bit last.signals here.record.left → want ≡ pack m (constant m b) → r ≡ not (pointwise eqb row want)
+      → r ≡ wrong (node_at rule k)
   unfolding wrong_row holds
   wrong_signal b r want e i w q =
-      compared want (constant m b) r w q ∙ ap (λ x. not (same m (unpack m row) (constant m x))) i
-      ∙ ap wrong (sym (node_signal here.record e) ∙ t.node)
+      is_kind here.record (λ d. r ≡ wrong d) Signal e
+      (compared want (constant m b) r w q ∙ ap (λ x. not (same m (unpack m row) (constant m x))) i)
+      ∙ ap wrong t.node
 
-  pub wrong_quiet : 1 ≤ here.record.kind → here.record.kind < 6 → (here.record.kind ≡ 3 → ⊥)
-      → false ≡ wrong (node_at rule k)
+  pub wrong_quiet : Quiet here.record.kind → false ≡ wrong (node_at rule k)
   unfolding wrong_row
-  wrong_quiet a b c =
-      kind_quiet (λ d. false ≡ wrong d) here.record refl refl refl refl a b c ∙ ap wrong t.node
+  wrong_quiet e = kind_quiet here.record (λ d. false ≡ wrong d) refl refl refl refl e ∙ ap wrong t.node
 
-  pub wrong_self : (r : Bool) (want : List ℕ) → 6 ≤ here.record.kind → here.record.kind < 8
-      → want ≡ pack m (parameter m (here.first + n)) → r ≡ every 64 (λ i. eqb (get_or row i 0) (get_or want i 0))
-      → not r ≡ wrong (node_at rule k)
+  pub wrong_self : (r : Bool) (want : List ℕ) → Future here.record.kind
+      → want ≡ pack m (parameter m (here.first + n)) → r ≡ not (pointwise eqb row want)
+      → r ≡ wrong (node_at rule k)
   unfolding wrong_row
-  wrong_self r want a b w q =
-      kind_future (λ d. not r ≡ wrong d) here.record own own a b ∙ ap wrong t.node
+  wrong_self r want e w q = kind_future here.record (λ d. r ≡ wrong d) own own e ∙ ap wrong t.node
     where
-      own : not r ≡ not (same m (unpack m row) (parameter m (first_of rule k + n)))
+      own : r ≡ not (same m (unpack m row) (parameter m (first_of rule k + n)))
       own =
           compared want (parameter m (here.first + n)) r w q
           ∙ ap (λ x. not (same m (unpack m row) (parameter m (x + n)))) t.before.starts
 
-  pub wrong_names : (r : Bool) → 8 ≤ here.record.kind
+  pub wrong_names : (r : Bool) → Past here.record.kind
       → r ≡ some m (λ p. names m (unpack m row) p && not (bit here.allowed p))
       → r ≡ wrong (node_at rule k)
   unfolding wrong_row names_other
-  wrong_names r a q = kind_past (λ d. r ≡ wrong d) here.record own own a ∙ ap wrong t.node
+  wrong_names r e q = kind_past here.record (λ d. r ≡ wrong d) own own e ∙ ap wrong t.node
     where
       own : r ≡ some m (λ p. names m (unpack m row) p && not (forward rule k p))
       own =

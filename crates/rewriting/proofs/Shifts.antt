@@ -1,52 +1,33 @@
 -- A row past its list, a row under a test, and a moved shift as the code has it.
 -- Assumes nothing.
-use mathlib.Core.Path.{◌≡◌, subst, sym, ap, ◌∙◌}
-use mathlib.Core.Bool.{Bool, true, false}
+use mathlib.Core.Path.{◌≡◌, refl, sym, ap, ◌∙◌}
+use mathlib.Core.Bool.{false, ◌&&◌, ◌||◌, and-false}
 use mathlib.Core.List.{List}
-use Prim.Native.Nat.{ℕ, ◌+◌, ◌≤◌, ◌<◌}
+use Prim.Native.Nat.{ℕ, ◌≤◌}
 use native.Mathlib.Omega.{arith}
 use lib.ListN.{length, get_or-eq_default}
-use Rattle.forms.specs.Form.{Form, constant, parameter}
-use Rattle.forms.specs.Words.{pack}
+use Rattle.std.specs.Prelude.{Option, None, Some}
+use Rattle.forms.specs.Form.{Form, constant, and, or, value}
 use Rattle.forms.specs.Area.{form_in}
-use Rattle.meaning.specs.Rewriting.{only_if, parameter_to, row_to}
-use Rattle.rewriting.specs.declared.interval.Shift.{Shift}
-use Rattle.rewriting.specs.declared.interval.Shift.TheVariants.{Gone, To}
-use Rattle.rewriting.specs.inside.Steps.{moved_of, Near}
+use Rattle.forms.proofs.Values.{value_constant, value_and, value_or, canonical}
 
 pub past_row : (m count j : ℕ) (rows : List (Form m)) → length rows ≡ count → count ≤ j
     → constant m false ≡ form_in m rows j
 past_row m count j rows e h = sym (get_or-eq_default rows (constant m false) (omega (arith, e)))
 
-module _ (m : ℕ) (b : Bool) (f : Form m) (r : List ℕ) where
-  pub only_taken : b ≡ true → r ≡ pack m f → r ≡ pack m (only_if m b f)
-  unfolding only_if
-  only_taken e h = h ∙ ap (λ b'. pack m (only_if m b' f)) (sym e)
+pub nothing : (s : Option ℕ) → ((n : ℕ) → s ≡ Some n → ⊥) → s ≡ None
+nothing None h = refl
+nothing (Some n) h = absurd (h n refl)
 
-  pub only_left : b ≡ false → r ≡ pack m (constant m false) → r ≡ pack m (only_if m b f)
-  unfolding only_if
-  only_left e h = h ∙ ap (λ b'. pack m (only_if m b' f)) (sym e)
+-- nothing and a form, nothing or a form
+pub and_nothing : (m : ℕ) (f : Form m) → and m f (constant m false) ≡ constant m false
+and_nothing m f =
+    canonical m _ _
+    (λ ρ.
+    value_and m f (constant m false) ρ ∙ ap (λ b. value m f ρ && b) (value_constant m false ρ)
+    ∙ and-false (value m f ρ) ∙ sym (value_constant m false ρ))
 
-pub near_to : (s : Shift) (n : ℕ) → s ≡ To n → Near s → n < 256
-unfolding Near
-near_to s n e h = subst Near e h
-
-module _ (m first : ℕ) (s : Shift) (r : List ℕ) where
-  pub parameter_gone : s ≡ Gone → r ≡ pack m (constant m false) → r ≡ pack m (parameter_to m first (moved_of s))
-  unfolding moved_of parameter_to
-  parameter_gone e h = h ∙ ap (λ t. pack m (parameter_to m first (moved_of t))) (sym e)
-
-  pub parameter_to_lem : (n : ℕ) → s ≡ To n → r ≡ pack m (parameter m (first + n))
-      → r ≡ pack m (parameter_to m first (moved_of s))
-  unfolding moved_of parameter_to
-  parameter_to_lem n e h = h ∙ ap (λ t. pack m (parameter_to m first (moved_of t))) (sym e)
-
-  module _ (rows : List (Form m)) where
-    pub row_gone : s ≡ Gone → r ≡ pack m (constant m false) → r ≡ pack m (row_to m rows first (moved_of s))
-    unfolding moved_of row_to
-    row_gone e h = h ∙ ap (λ t. pack m (row_to m rows first (moved_of t))) (sym e)
-
-    pub row_to_lem : (n : ℕ) → s ≡ To n → r ≡ pack m (form_in m rows (first + n))
-        → r ≡ pack m (row_to m rows first (moved_of s))
-    unfolding moved_of row_to
-    row_to_lem n e h = h ∙ ap (λ t. pack m (row_to m rows first (moved_of t))) (sym e)
+pub nothing_or : (m : ℕ) (f : Form m) → or m (constant m false) f ≡ f
+nothing_or m f =
+    canonical m _ _
+    (λ ρ. value_or m (constant m false) f ρ ∙ ap (λ b. b || value m f ρ) (value_constant m false ρ))

@@ -6,12 +6,13 @@ use mathlib.Core.List.{List}
 use Prim.Native.Nat.{ℕ, suc, ◌^◌, ◌≤◌, ◌<◌}
 use native.Mathlib.Nat.{le_refl}
 use native.Mathlib.Omega.{arith}
-use borrow.Author.Tests.{le-leb, lt-leb, leb-true, eq-eqb, eqb-true, not-false}
+use borrow.Author.Tests.{le-leb, leb-true, eq-eqb, eqb-true, not-false}
 use lib.Dec.{eqb, leb}
+use lib.Pointwise.{pointwise, bytes_decides}
 use lib.ListN.{length, get_or, replicate, get_or-eq_default}
 use lib.Seq.{ext_get_or}
-use Rattle.ground.specs.Fold.{fold, every, some}
-use Rattle.ground.proofs.Folds.{fold_cong, every_all, every_at, some_at, some_none, none_at}
+use Rattle.ground.specs.Fold.{fold, some}
+use Rattle.ground.proofs.Folds.{fold_cong, every_all, every_at, some_none, none_at}
 use Rattle.ground.proofs.Numbers.{zero_at}
 use Rattle.ground.proofs.Tabs.{tab_cong}
 use Rattle.forms.specs.Form.{Form, constant}
@@ -23,6 +24,7 @@ use Rattle.meaning.specs.Rule.{Entry}
 use Rattle.rewriting.specs.Known.{words_for, form_at, past_in, known_in, area_of, Tidy}
 use Rattle.rewriting.specs.Shape.{bits_above, zero_row, not_zero_from}
 use Rattle.rewriting.specs.inside.Shapes.{Fitting}
+use Rattle.meaning.proofs.Ranges.{same_truth}
 use Rattle.rewriting.proofs.Placed.{row_past, row_remainder, row_area_of}
 
 -- the past rows and the remainder, of which one has a bit at or above 2^m or none has
@@ -34,9 +36,6 @@ module _ (places m : ℕ) (ws : List ℕ) where
   unfolding bits_above fold
   bits_all = refl
 
-  pub bits_found : (j : ℕ) → j < places → above j ≡ true → true ≡ bits_above places m ws
-  bits_found j h e = sym (some_at (suc places) above j (omega arith) e) ∙ bits_all
-
   pub bits_last : (r : Bool) → ((j : ℕ) → j < places → above j ≡ false) → r ≡ above places
       → r ≡ bits_above places m ws
   unfolding bits_above
@@ -47,22 +46,6 @@ module _ (places m : ℕ) (ws : List ℕ) where
 
   pub fitting : m ≤ places → bits_above places m ws ≡ false → Fitting m ws
   fitting few e j h = fits_at e j (omega arith)
-
--- the same words as those of a row of zeros
-pub zero_words_row : (row : List ℕ) (r : Bool) → r ≡ every 64 (λ i. eqb (get_or row i 0) (get_or (replicate 64 0) i 0))
-    → r ≡ zero_row row
-unfolding zero_row
-zero_words_row row r e =
-    e ∙ fold_cong ◌&&◌ true 64 (λ i. eqb (get_or row i 0) (get_or (replicate 64 0) i 0)) (λ i. eqb (get_or row i 0) 0)
-    (λ i h. ap (eqb (get_or row i 0)) (zero_at 64 i))
-
--- a row from some place on, and one before it
-pub zero_tested : (from j : ℕ) (row loaded : List ℕ) (z : Bool) → from ≤ j → loaded ≡ row → z ≡ zero_row loaded
-    → not z ≡ (leb from j && not (zero_row row))
-zero_tested from j row loaded z h e q = rw (le-leb from j h, q, e)
-
-pub zero_untested : (from j : ℕ) (b : Bool) → j < from → false ≡ (leb from j && b)
-zero_untested from j b h = rw (lt-leb from j h)
 
 -- a row of zeros
 zero_row_lem : zero_row (replicate 64 0) ≡ true
@@ -76,6 +59,12 @@ zero_row_is row l e =
     (λ i h.
     eqb-true (get_or row i 0) 0 (every_at 64 (λ j. eqb (get_or row j 0) 0) e i (subst (λ n. i < n) l h))
     ∙ sym (zero_at 64 i))
+
+-- it is the row that equals it
+pub zero_row_equal : (row : List ℕ) → length row ≡ 64 → pointwise eqb row (replicate 64 0) ≡ zero_row row
+zero_row_equal row l =
+    same_truth _ _ (λ e. ap zero_row ((bytes_decides row (replicate 64 0)).0 e) ∙ zero_row_lem)
+    (λ e. (bytes_decides row (replicate 64 0)).1 (zero_row_is row l e))
 
 zeros_at : (places from : ℕ) (ws : List ℕ) → not_zero_from places from ws ≡ false → (j : ℕ) → from ≤ j → j < places
     → row_at ws j ≡ replicate 64 0

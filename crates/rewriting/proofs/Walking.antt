@@ -14,13 +14,13 @@ use Rattle.meaning.specs.Rewriting.{forms_of}
 use Rattle.meaning.proofs.Blocks.{first_of_fits}
 use Rattle.rewriting.specs.declared.row.Row.{Row}
 use Rattle.rewriting.specs.declared.step.Step.{Step}
-use Rattle.rewriting.specs.declared.step.Neighbour.{Neighbour}
+use Rattle.std.specs.Prelude.{Option}
 use Rattle.rewriting.specs.declared.step.Plan.{Plan}
 use Rattle.rewriting.specs.declared.step.Moment.{Moment}
 use Rattle.rewriting.specs.Decode.{node_in, node_for, record_in}
 use Rattle.rewriting.specs.Known.{words_for}
 use Rattle.rewriting.specs.Plans.{rule_for, entry_for, Sound, HoldsForms, form_row}
-use Rattle.rewriting.specs.inside.Steps.{neighbour_of, entry_in, Fair, own_at, other_at, row_by, made_of}
+use Rattle.rewriting.specs.inside.Steps.{neighbour_of, entry_in, own_at, other_at, row_by, made_of}
 use Rattle.rewriting.specs.inside.Walks.{step_in, Apart, made_row, Puts, table_of, rows_for}
 use Rattle.rewriting.proofs.Counting.{first_of_rule, parameters_done}
 use Rattle.rewriting.proofs.Making.{own_room, rows_apart, length_table, table_more, table_made}
@@ -28,10 +28,19 @@ use Rattle.rewriting.proofs.Rules.{node_in_lem, record_node, record_count}
 use Rattle.rewriting.proofs.Tables.{forms_held}
 use Rattle.rewriting.proofs.Written.{wrote_block, held_put, held_kept}
 
+-- a plan's parameters, and the first of a record, are among those of a row
+pub first_fits : (list : List ℕ) (plan : Plan) → Sound list plan → (k first : ℕ)
+    → first ≡ first_of (rule_for list plan) k → (plan.m ≤ 12) × (first ≤ 12)
+first_fits list plan sound k first e = (
+  omega (arith, sound.few, sound.room),
+  omega (arith, sound.own, first_of_fits (rule_for list plan) k, e, sound.few, sound.room),
+)
+
 -- a step's parameters are those of its record of the rule
-pub step_count : (list : List ℕ) (k first m : ℕ) (here : Moment) (near : Neighbour) (step : Step) (n : ℕ)
-    → step ≡ step_in list k first m here near → n ≡ count (node_for step.record) → n ≡ count (node_in list k)
-step_count list k first m here near step n is e =
+pub step_count : (list : List ℕ) (k first m : ℕ) (here : Moment) (near : Option ℕ) (few : m ≤ 12) (within : first ≤ 12)
+    (step : Step) (n : ℕ) → step ≡ step_in list k first m here near few within
+    → n ≡ count (node_for step.record) → n ≡ count (node_in list k)
+step_count list k first m here near few within step n is e =
     record_count list k step.record (ap (λ (s : Step). s.record) is) n e
 
 -- the c parameters of record k of the rule begin at first
@@ -52,29 +61,20 @@ module _ (list : List ℕ) (plan : Plan) (sound : Sound list plan) (k first c : 
   count_is : c ≡ count (node_at (rule_for list plan) k)
   count_is = counted ∙ ap count (sym (node_in_lem list plan.records k less))
 
-  module _ (here : Moment) (near : Neighbour) (step : Step)
-      (is : step ≡ step_in list k first plan.m here near) where
+  module _ (here : Moment) (near : Option ℕ) (narrow : plan.m ≤ 12) (within : first ≤ 12) (step : Step)
+      (is : step ≡ step_in list k first plan.m here near narrow within) where
     node_is : node_for (record_in list k) ≡ node_at (rule_for list plan) k
     node_is = record_node list k (record_in list k) refl ∙ sym (node_in_lem list plan.records k less)
 
     -- what the loops over its shifts ask for: the scratch comes after the past rows
-    pub step_ready : (held : ℕ) → held ≤ plan.m → Fair step × Apart step c (plan.places + 1) held
-    unfolding record_in
+    pub step_ready : (held : ℕ) → held ≤ plan.m → Apart step c (plan.places + 1) held
     step_ready held h =
-        subst (λ (s : Step). Fair s × Apart s c (plan.places + 1) held)
-        (sym is) (
-          record {
-            few = omega (arith, sound.few, sound.room);
-            within = omega (arith, block_fits, sound.few, sound.room);
-            byte = omega arith;
-            some = sound.kinds k less;
-          },
-          record {
-            before = omega (arith, sound.few);
-            behind = omega (arith, block_fits, sound.few);
-            low = omega (arith, sound.room);
-          },
-        )
+        subst (λ (s : Step). Apart s c (plan.places + 1) held) (sym is)
+        (record {
+          before = omega (arith, sound.few);
+          behind = omega (arith, block_fits, sound.few);
+          low = omega (arith, sound.room);
+        })
 
     -- the rows of record k
     pub rows_block : (row : Row) (held : ℕ) (other : List (Form plan.m)) (fs ws area next : List ℕ)
@@ -97,7 +97,7 @@ module _ (list : List ℕ) (plan : Plan) (sound : Sound list plan) (k first c : 
         let forms : List (Form m) = forms_of m rule k in
         let own : List (Form m) = table_of row m rule other e nb k in
         let rows : ℕ → List ℕ = form_row m (rows_for row list plan here near other) in
-        let made = made_row row (step_in list k first m here near) own other forms in
+        let made = made_row row (step_in list k first m here near narrow within) own other forms in
         wrote_block ws base rows first c (base + first) made area next w refl
         (subst (λ s. Puts row s c fs k area scratch held next) is puts own other forms
         (record {

@@ -4,7 +4,7 @@ use mathlib.Core.Path.{◌≡◌, sym, ap, ap₂, ◌∙◌}
 use mathlib.Core.Logic.{◌⊎◌, inl, inr, ⊎_elim}
 use mathlib.Core.List.{List}
 use Prim.Native.Nat.{ℕ, zero, suc, ◌+◌, ◌*◌, ◌≤◌, ◌<◌}
-use native.Mathlib.Nat.{le_antisymm, add-zero, add-suc}
+use native.Mathlib.Nat.{add-zero, add-suc}
 use native.Mathlib.Numerals.{add-one}
 use native.Mathlib.Omega.{arith}
 use lib.ListN.{length}
@@ -44,10 +44,6 @@ module _ (ws : List ℕ) (base : ℕ) (g : ℕ → List ℕ) where
       q ∙ ap₂ (λ (x : List ℕ) y. put_rows x y n h) e p
       ∙ put_rows_cong (put_rows ws base a g) (base + a) n h (λ i. g (a + i)) r
       ∙ joined a n
-
-  pub wrote_all : (n count : ℕ) (area : List ℕ) → area ≡ put_rows ws base n g → n ≤ count → count ≤ n
-      → area ≡ put_rows ws base count g
-  wrote_all n count area e h l = e ∙ ap (λ x. put_rows ws base x g) (le_antisymm h l)
 
 module _ (m : ℕ) (ws : List ℕ) (base count : ℕ) (rows : List (Form m)) where
   -- rows that are put are held, and rows elsewhere are kept

@@ -6,7 +6,7 @@ use Rattle.forms.specs.Area.{form_in, put_rows, Holds}
 use Rattle.meaning.specs.Rule.{Node, Entry, parameters}
 use Rattle.meaning.specs.Rewriting.{forms_of}
 use Rattle.meaning.specs.Words.{Known, leave, feed}
-use Rattle.rewriting.specs.Decode.{byte_of, rule_in}
+use Rattle.rewriting.specs.Decode.{rule_in}
 use Rattle.rewriting.specs.Known.{form_at, past_in, known_in, area_of, Tidy}
 use Rattle.rewriting.specs.declared.step.Plan.{Plan}
 use Rattle.rewriting.specs.declared.step.Moment.{Moment}
@@ -25,11 +25,10 @@ read_in plan ws last = known_in plan.places plan.m ws (entry_for last)
 abbrev pub area_with : (plan : Plan) → Known plan.m → List ℕ
 area_with plan s = area_of plan.places plan.m s.past s.remainder
 
--- every record has a kind, m counts the rule's parameters, and they have places among the twelve of a row
+-- m counts the rule's parameters, and they have places among the twelve of a row
 pub record Sound (list : List ℕ) (plan : Plan) : Type 0 where
   pub some : 0 < plan.records
   pub most : plan.records ≤ 64
-  pub kinds : (k : ℕ) → k < plan.records → 1 ≤ byte_of list k 0
   pub own : plan.m ≡ parameters (rule_in list plan.records)
   pub few : plan.m ≤ plan.places
   pub room : plan.places ≤ 12

@@ -3,15 +3,13 @@ ghost use Rattle.std.specs.Prelude.{◌≡◌, ◌&&◌, ◌||◌, ℕ, ◌+◌,
 ghost use Rattle.ground.specs.Bits.{bit};
 ghost use Rattle.rewriting.specs.Known.{words_for, Tidy};
 ghost use Rattle.rewriting.specs.Plans.{Sound, HoldsForms, Ready};
-ghost use Rattle.rewriting.specs.inside.Steps.{Fair};
 ghost use Rattle.rewriting.specs.inside.Endings.{Settled, last_rows, OfEnd, OfEnds};
 ghost use Rattle.rewriting.specs.Clauses.{ValueIfLastClause, CloseClause, BeginClause};
 
-use crate::interval::inside_now;
-use crate::kind::{SIGNAL, UNTIL};
+use crate::kind::Kind;
 use crate::parts::signal;
 use crate::rule::count_of;
-use crate::step::{Moment, Neighbour, Plan, Step};
+use crate::step::{Moment, Plan, Step};
 use crate::walk::step_at;
 use forms::area::{clear, load, row_of, store};
 use forms::rows::constant;
@@ -19,23 +17,19 @@ use forms::table::value;
 
 // The value of a record's shift at the end, from a setting that has those of the records before.
 fn end_value(step: Step, forms: &[u64], k: usize, area: &[u64], setting: usize) -> bool
-    requires { Fair step }
     ensures { OfEnd step forms.now k area.now setting result }
 {
-    let kind = step.record.kind;
-    if kind == SIGNAL {
-        return signal(step.signals, step.record.left);
-    }
-    if kind < UNTIL {
-        return false;
-    }
-    if kind == UNTIL {
-        if inside_now(step.record.interval, step.shift, step.here) {
-            return value(row_of(forms, 0, k, step.record.right as usize), setting);
+    let record = step.record;
+    match record.kind {
+        Kind::True | Kind::False | Kind::And | Kind::Xor | Kind::Next => false,
+        Kind::Signal => signal(step.signals, record.left),
+        Kind::Until => {
+            step.sees_itself() && value(row_of(forms, 0, k, record.right as usize), setting)
         }
-        return false;
+        Kind::Previous | Kind::Since | Kind::Other(_) => {
+            value(row_of(area, 0, step.m, step.first + step.shift), setting)
+        }
     }
-    value(row_of(area, 0, step.m, step.first + step.shift), setting)
 }
 
 // The setting with parameter p true as well, if b is.
@@ -55,20 +49,19 @@ fn end_values(
     area: &[u64],
     setting: usize,
 ) -> usize
-    requires { Fair step × (step.first + count ≤ 64) }
+    requires { step.first + count ≤ 64 }
     ensures { OfEnds step count forms.now k area.now setting result }
 {
     let mut grown = setting;
     for n in 0..count {
-        let mut turn = step;
-        turn.shift = n;
-        let b = end_value(turn, forms, k, area, setting);
+        let b = end_value(step.at_shift(n), forms, k, area, setting);
         grown = with_value(grown, step.first + n, b);
     }
     grown
 }
 
-// The setting of a rule's parameters, were this the last record.
+// The setting of a rule's parameters, were this the last record. It counts along where they begin, as the loops of
+// `walk` do.
 fn last_setting(list: &[u8], plan: Plan, last: Moment, forms: &[u64], area: &[u64]) -> usize
     requires { Ready list.now plan forms.now area.now }
     ensures { Settled plan.m (last_rows list.now plan last area.now plan.records)
@@ -77,7 +70,7 @@ fn last_setting(list: &[u8], plan: Plan, last: Moment, forms: &[u64], area: &[u6
     let mut setting: usize = 0;
     let mut first: usize = 0;
     for k in 0..plan.records {
-        let step = step_at(list, k, first, plan.m, last, Neighbour::None);
+        let step = step_at(list, k, first, plan.m, last, None);
         let count = count_of(step.record);
         setting = end_values(step, count, forms, k, area, setting);
         first += count;

@@ -2,7 +2,7 @@
 ghost use Rattle.std.specs.Prelude.{◌≤◌};
 ghost use Rattle.rewriting.specs.inside.Steps.{OfRecord};
 
-use crate::kind::{AND, FALSE, TRUE, XOR};
+use crate::kind::Kind;
 use crate::step::Record;
 use forms::area::row_of;
 use forms::join::and;
@@ -13,22 +13,18 @@ pub(crate) fn form_row(record: Record, first: usize, m: usize, forms: &[u64], k:
     requires { m ≤ 12 }
     ensures { OfRecord «record» first m forms.now k result }
 {
-    let kind = record.kind;
-    if kind == TRUE {
-        return constant(true);
+    match record.kind {
+        Kind::True => constant(true),
+        Kind::False => constant(false),
+        Kind::And => and(
+            row_of(forms, 0, k, record.left as usize),
+            row_of(forms, 0, k, record.right as usize),
+        ),
+        Kind::Xor => xor(
+            row_of(forms, 0, k, record.left as usize),
+            row_of(forms, 0, k, record.right as usize),
+        ),
+        Kind::Signal | Kind::Next | Kind::Until | Kind::Previous | Kind::Since | Kind::Other(_) =>
+            parameter(first, m),
     }
-    if kind == FALSE {
-        return constant(false);
-    }
-    if kind != AND {
-        if kind != XOR {
-            return parameter(first, m);
-        }
-    }
-    let left = row_of(forms, 0, k, record.left as usize);
-    let right = row_of(forms, 0, k, record.right as usize);
-    if kind == AND {
-        return and(left, right);
-    }
-    xor(left, right)
 }

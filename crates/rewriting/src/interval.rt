@@ -8,14 +8,8 @@ ghost use Rattle.rewriting.specs.inside.Steps.{moved_of, Near};
 
 use crate::step::Interval;
 
-// What a shift becomes.
-#[derive(Clone, Copy)]
-pub(crate) enum Shift {
-    Gone,
-    To(usize),
-}
-
 // Whether an interval has no upper end.
+#[tactic(auto, unfolding(crate::specs::Decode::endless))]
 pub fn endless(interval: Interval) -> bool
     ensures { EndlessClause interval result }
 {
@@ -23,14 +17,11 @@ pub fn endless(interval: Interval) -> bool
 }
 
 // The minutes between two times.
+#[tactic(auto, unfolding(meaning::specs::Interval::distance))]
 fn apart(here: u32, other: u32) -> usize
     ensures { (result ≡ distance here other) × (result < 4294967296) }
 {
-    if here < other {
-        (other - here) as usize
-    } else {
-        (here - other) as usize
-    }
+    here.abs_diff(other) as usize
 }
 
 // Whether the other record, seen from the one here, is in the interval.
@@ -38,13 +29,7 @@ pub(crate) fn inside(interval: Interval, here: u32, other: u32) -> bool
     ensures { result ≡ inside_of (interval_for interval) here other }
 {
     let gap = apart(here, other);
-    if gap < interval.low as usize {
-        return false;
-    }
-    if endless(interval) {
-        return true;
-    }
-    gap <= interval.high as usize
+    interval.low as usize <= gap && (endless(interval) || gap <= interval.high as usize)
 }
 
 // Whether the record here is in its own interval with a shift: 0 is in the shifted interval.
@@ -54,23 +39,16 @@ pub(crate) fn inside_now(interval: Interval, shift: usize, here: u32) -> bool
     interval.low as usize <= shift
 }
 
-// What a shift becomes by the gap between the record here and the other one.
-pub(crate) fn moved(interval: Interval, shift: usize, here: u32, other: u32) -> Shift
+// What a shift becomes by the gap between the record here and the other one; none where it is gone.
+pub(crate) fn moved(interval: Interval, shift: usize, here: u32, other: u32) -> Option<usize>
     requires { shift < 256 }
     ensures { (moved_of result ≡ moved_by (interval_for interval) shift here other) × Near result }
 {
     let later = shift + apart(here, other);
     if endless(interval) {
-        let low = interval.low as usize;
-        if later < low {
-            return Shift::To(later);
-        }
-        return Shift::To(low);
+        return Some(later.min(interval.low as usize));
     }
-    if later <= interval.high as usize {
-        return Shift::To(later);
-    }
-    Shift::Gone
+    (later <= interval.high as usize).then_some(later)
 }
 
 // How many shifts an interval has: 0 to high, or to low with no upper end.

@@ -1,18 +1,38 @@
 // The kinds of a rule's records, as the rule list has them.
-pub const TRUE: u8 = 1;
+ghost use Rattle.std.specs.Prelude.{◌≡◌};
+ghost use Rattle.rewriting.specs.Decode.{kind_of};
 
-pub const FALSE: u8 = 2;
+#[derive(Clone, Copy, Debug, PartialEq, Eq)]
+pub enum Kind {
+    True,
+    False,
+    Signal,
+    And,
+    Xor,
+    Next,
+    Until,
+    Previous,
+    Since,
+    // A byte that is no kind. Such a record is read as since.
+    Other(u8),
+}
 
-pub const SIGNAL: u8 = 3;
+impl From<u8> for Kind {
+    ghost from_gives = { λ byte kind. kind ≡ kind_of byte };
 
-pub const AND: u8 = 4;
-
-pub const XOR: u8 = 5;
-
-pub const NEXT: u8 = 6;
-
-pub const UNTIL: u8 = 7;
-
-pub const PREVIOUS: u8 = 8;
-
-pub const SINCE: u8 = 9;
+    #[tactic(auto, unfolding(crate::specs::Decode::kind_of))]
+    fn from(byte: u8) -> Kind {
+        match byte {
+            1 => Kind::True,
+            2 => Kind::False,
+            3 => Kind::Signal,
+            4 => Kind::And,
+            5 => Kind::Xor,
+            6 => Kind::Next,
+            7 => Kind::Until,
+            8 => Kind::Previous,
+            9 => Kind::Since,
+            _ => Kind::Other(byte),
+        }
+    }
+}

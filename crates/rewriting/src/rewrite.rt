@@ -4,7 +4,7 @@ ghost use Rattle.rewriting.specs.Plans.{Ready};
 ghost use Rattle.rewriting.specs.Clauses.{FirstClause, FeedClause};
 
 use crate::row::Row;
-use crate::step::{Moment, Neighbour, Plan};
+use crate::step::{Moment, Plan};
 use crate::walk::rule_rows;
 use forms::area::{clear, load, store};
 use forms::table::put_in;
@@ -16,8 +16,7 @@ pub fn first(list: &[u8], plan: Plan, new: Moment, forms: &[u64], area: &mut [u6
         area.new }
 {
     let scratch = plan.places + 1;
-    let before = Neighbour::None;
-    rule_rows(Row::Past, list, plan, new, before, 0, forms, area);
+    rule_rows(Row::Past, list, plan, new, None, 0, forms, area);
     clear(area, scratch, scratch);
 }
 
@@ -28,11 +27,11 @@ pub fn feed(list: &[u8], plan: Plan, last: Moment, new: Moment, forms: &[u64], a
         area.new }
 {
     let derived = plan.places + 1;
-    let later = Neighbour::At(new.time);
+    let later = Some(new.time);
     rule_rows(Row::Derived, list, plan, last, later, plan.m, forms, area);
     let rest = put_in(load(area, plan.places), area, derived, plan.m);
     store(area, plan.places, rest);
-    let before = Neighbour::At(last.time);
+    let before = Some(last.time);
     rule_rows(Row::Past, list, plan, new, before, plan.m, forms, area);
     clear(area, derived, derived);
 }

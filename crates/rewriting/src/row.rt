@@ -1,13 +1,10 @@
 // One row of a record's shift, derived or past. Past rows stand first in the area, derived rows in its scratch.
 ghost use Rattle.std.specs.Prelude.{◌≡◌};
-ghost use Rattle.rewriting.specs.inside.Steps.{Fair, own_at, OfMade};
+ghost use Rattle.rewriting.specs.inside.Steps.{own_at, OfMade};
 
 use crate::derived::derived_row;
-use crate::kind::{NEXT, SIGNAL};
-use crate::parts::signal;
 use crate::past::past_row;
 use crate::step::Step;
-use forms::rows::constant;
 
 // Which rows are made.
 #[derive(Clone, Copy)]
@@ -26,7 +23,7 @@ pub(crate) fn own_at(row: Row, scratch: usize) -> usize
     }
 }
 
-// The row of a step: a signal gives its constant, and a record without parameters has none.
+// The row of a step.
 pub(crate) fn step_row(
     row: Row,
     step: Step,
@@ -36,16 +33,8 @@ pub(crate) fn step_row(
     scratch: usize,
     held: usize,
 ) -> [u64; 64]
-    requires { Fair step }
     ensures { OfMade row step forms.now k area.now scratch held result }
 {
-    let kind = step.record.kind;
-    if kind == SIGNAL {
-        return constant(signal(step.signals, step.record.left));
-    }
-    if kind < NEXT {
-        return constant(false);
-    }
     match row {
         Row::Derived => derived_row(step, forms, k, area, scratch, held),
         Row::Past => past_row(step, forms, k, area, scratch, held),

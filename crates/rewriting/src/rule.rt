@@ -2,7 +2,7 @@
 ghost use Rattle.rewriting.specs.Clauses.{ByteOfClause, RecordAtClause, CountOfClause, ParametersInClause};
 
 use crate::interval::shifts;
-use crate::kind::{AND, FALSE, NEXT, PREVIOUS, SIGNAL, TRUE, XOR};
+use crate::kind::Kind;
 use crate::step::{Interval, Record};
 
 // Bytes of a record.
@@ -12,17 +12,12 @@ pub const RECORD_BYTES: usize = 8;
 const RECORDS: usize = 64;
 
 // Byte `i` of record `k`; zero past the list's end.
+#[tactic(auto, unfolding(crate::specs::Decode::byte_of))]
 pub fn byte_of(list: &[u8], k: usize, i: usize) -> u8
     ensures { ByteOfClause list.now k i result }
 {
-    if k > list.len() / RECORD_BYTES {
-        return 0;
-    }
-    let first = RECORD_BYTES * k;
-    if i >= list.len() - first {
-        return 0;
-    }
-    list[first + i]
+    let at = RECORD_BYTES.saturating_mul(k).saturating_add(i);
+    list.get(at).copied().unwrap_or(0)
 }
 
 // Record `k` of the list.
@@ -35,7 +30,7 @@ pub fn record_at(list: &[u8], k: usize) -> Record
         high: byte_of(list, k, 5),
     };
     Record {
-        kind: byte_of(list, k, 0),
+        kind: byte_of(list, k, 0).into(),
         left: byte_of(list, k, 1),
         right: byte_of(list, k, 2),
         interval,
@@ -46,11 +41,10 @@ pub fn record_at(list: &[u8], k: usize) -> Record
 pub fn count_of(record: Record) -> usize
     ensures { CountOfClause «record» result }
 {
-    let kind = record.kind;
-    match kind {
-        TRUE | FALSE | AND | XOR => 0,
-        SIGNAL | NEXT | PREVIOUS => 1,
-        _ => shifts(record.interval),
+    match record.kind {
+        Kind::True | Kind::False | Kind::And | Kind::Xor => 0,
+        Kind::Signal | Kind::Next | Kind::Previous => 1,
+        Kind::Until | Kind::Since | Kind::Other(_) => shifts(record.interval),
     }
 }
 
@@ -58,7 +52,7 @@ pub fn count_of(record: Record) -> usize
 pub fn parameters_in(list: &[u8], n: usize) -> usize
     ensures { ParametersInClause list.now n result }
 {
-    let last = if n < RECORDS { n } else { RECORDS };
+    let last = n.min(RECORDS);
     let mut sum = 0;
     for k in 0..last {
         sum += count_of(record_at(list, k));

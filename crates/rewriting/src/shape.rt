@@ -1,7 +1,7 @@
 // The rows that a state must have: the parts of check 12 that read the area. Past rows stand from place 0 on, the
 // remainder behind the places for them.
-ghost use Rattle.std.specs.Prelude.{◌≡◌, true, false, not, ◌&&◌, ◌^◌, ◌<◌, eqb, leb, get_or};
-ghost use Rattle.ground.specs.Fold.{every, some};
+ghost use Rattle.std.specs.Prelude.{◌≡◌, true, false, not, ◌&&◌, ◌^◌, ◌<◌, leb};
+ghost use Rattle.ground.specs.Fold.{some};
 ghost use Rattle.ground.specs.Bits.{bit};
 ghost use Rattle.forms.specs.Form.{names as names_of};
 ghost use Rattle.forms.specs.Words.{fits as fits_of};
@@ -12,7 +12,7 @@ ghost use Rattle.rewriting.specs.Shape.{bits_above, zero_row};
 ghost use Rattle.rewriting.specs.Clauses.{BitsAboveClause, NotZeroFromClause, WrongRowsClause};
 ghost use Rattle.rewriting.specs.inside.Shapes.{Before, Tells, Placed, Fitting, widened, RowWrong, RecordWrong};
 
-use crate::kind::{NEXT, PREVIOUS, SIGNAL};
+use crate::kind::Kind;
 use crate::parts::signal;
 use crate::rule::{count_of, record_at};
 use crate::step::{Moment, Plan, Record};
@@ -28,23 +28,11 @@ pub(crate) struct Here {
     pub(crate) allowed: usize,
 }
 
-// Whether two rows have the same words.
-fn same_words(a: [u64; 64], b: [u64; 64]) -> bool
-    ensures { result ≡ every 64 (λ i. eqb (get_or a i 0) (get_or b i 0)) }
-{
-    for i in 0..64 {
-        if a[i] != b[i] {
-            return false;
-        }
-    }
-    true
-}
-
 // Whether a row is all zeros.
 fn zero_row(row: [u64; 64]) -> bool
     ensures { result ≡ zero_row row }
 {
-    same_words(row, [0u64; 64])
+    row == [0; 64]
 }
 
 // Whether the row at a place has a bit at or above 2^m.
@@ -58,35 +46,14 @@ fn row_above(m: usize, area: &[u64], j: usize) -> bool
 pub fn bits_above(places: usize, m: usize, area: &[u64]) -> bool
     ensures { BitsAboveClause places m area.now result }
 {
-    for j in 0..places {
-        if row_above(m, area, j) {
-            return true;
-        }
-    }
-    row_above(m, area, places)
-}
-
-// Whether the row at a place is one from some place on and not zero.
-fn row_not_zero(from: usize, area: &[u64], j: usize) -> bool
-    ensures { result ≡ (leb from j && not (zero_row (row_at area.now j))) }
-{
-    if from <= j {
-        !zero_row(load(area, j))
-    } else {
-        false
-    }
+    (0..places).any(|j| row_above(m, area, j)) || row_above(m, area, places)
 }
 
 // Whether a past row from some place on is not zero.
 pub fn not_zero_from(places: usize, from: usize, area: &[u64]) -> bool
     ensures { NotZeroFromClause places from area.now result }
 {
-    for j in 0..places {
-        if row_not_zero(from, area, j) {
-            return true;
-        }
-    }
-    false
+    (0..places).any(|j| from <= j && !zero_row(load(area, j)))
 }
 
 // Whether the row names a parameter that is not among the allowed ones.
@@ -98,24 +65,19 @@ fn names_other(row: [u64; 64], allowed: usize) -> bool
     named | allowed != allowed
 }
 
-// Whether the row is wrong for shift n of the record: a signal's is not its constant, a next's or until's is not
+// Whether the row of shift n of the record is wrong: a signal's is not its constant, a next's or until's is not
 // itself, or a previous's or since's names a parameter that it may not.
-fn row_wrong(here: Here, n: usize, m: usize, last: Moment, row: [u64; 64]) -> bool
-    requires { Placed m here × (n < here.count) × (fits_of m row ≡ true) }
-    ensures { RowWrong here n m last row result }
+fn row_wrong(here: Here, n: usize, m: usize, last: Moment, area: &[u64]) -> bool
+    requires { Placed m here × (n < here.count) × Fitting m area.now }
+    ensures { RowWrong here n m last area.now result }
 {
-    let kind = here.record.kind;
-    if kind == SIGNAL {
-        let holds = signal(last.signals, here.record.left);
-        return !same_words(row, constant(holds));
+    let row = load(area, here.first + n);
+    match here.record.kind {
+        Kind::True | Kind::False | Kind::And | Kind::Xor => false,
+        Kind::Signal => row != constant(signal(last.signals, here.record.left)),
+        Kind::Next | Kind::Until => row != parameter(here.first + n, m),
+        Kind::Previous | Kind::Since | Kind::Other(_) => names_other(row, here.allowed),
     }
-    if kind < NEXT {
-        return false;
-    }
-    if kind < PREVIOUS {
-        return !same_words(row, parameter(here.first + n, m));
-    }
-    names_other(row, here.allowed)
 }
 
 // Whether one of the record's rows is wrong.
@@ -123,12 +85,7 @@ fn record_wrong(here: Here, m: usize, last: Moment, area: &[u64]) -> bool
     requires { Placed m here × Fitting m area.now }
     ensures { RecordWrong here m last area.now result }
 {
-    for n in 0..here.count {
-        if row_wrong(here, n, m, last, load(area, here.first + n)) {
-            return true;
-        }
-    }
-    false
+    (0..here.count).any(|n| row_wrong(here, n, m, last, area))
 }
 
 // The parameters that rows of the next record may name: also this record's, if it looks forward.
@@ -136,16 +93,12 @@ fn widen(here: Here, m: usize) -> usize
     requires { Placed m here }
     ensures { result ≡ widened here }
 {
-    let kind = here.record.kind;
-    if NEXT <= kind {
-        if kind < PREVIOUS {
+    match here.record.kind {
+        Kind::Next | Kind::Until => {
             let own = (1 << here.count) - 1;
             here.allowed | (own << here.first)
-        } else {
-            here.allowed
         }
-    } else {
-        here.allowed
+        _ => here.allowed,
     }
 }
 
@@ -163,7 +116,8 @@ fn here_at(list: &[u8], plan: Plan, k: usize, first: usize, allowed: usize) -> H
     }
 }
 
-// Whether a past row is not what it must be after the last record.
+// Whether a past row is not what it must be after the last record. It counts along where a record's parameters begin,
+// as the loops of `walk` do, and which of them look forward.
 pub fn wrong_rows(list: &[u8], plan: Plan, last: Moment, area: &[u64]) -> bool
     requires { Sound list.now plan × (bits_above plan.places plan.m area.now ≡ false) }
     ensures { WrongRowsClause list.now plan last area.now result }

@@ -1,4 +1,8 @@
 // What one row is made from.
+ghost use Rattle.std.specs.Prelude.{◌≡◌, ◌≤◌, ◌<◌};
+
+use crate::interval::{inside, inside_now, moved};
+use crate::kind::Kind;
 
 // The interval of a record, from its bytes: which kind of interval it is, and its ends.
 #[derive(Clone, Copy)]
@@ -11,20 +15,14 @@ pub struct Interval {
 // A record of a rule, from its bytes.
 #[derive(Clone, Copy)]
 pub struct Record {
-    pub kind: u8,
+    pub kind: Kind,
     pub left: u8,
     pub right: u8,
     pub interval: Interval,
 }
 
-// The neighbouring record of the log: there is none, or it has a time.
-#[derive(Clone, Copy)]
-pub enum Neighbour {
-    None,
-    At(u32),
-}
-
-// A record with its first parameter and a shift, of m parameters, at a record of the log with its neighbour.
+// A record with its first parameter and a shift, of m parameters, at a record of the log, and the time of the record
+// beside it, if there is one.
 #[derive(Clone, Copy)]
 pub struct Step {
     pub record: Record,
@@ -33,7 +31,46 @@ pub struct Step {
     pub m: usize,
     pub here: u32,
     pub signals: u16,
-    pub neighbour: Neighbour,
+    pub neighbour: Option<u32>,
+    ghost few: { m ≤ 12 },
+    ghost within: { first ≤ 12 },
+    ghost byte: { shift < 256 },
+}
+
+impl Step {
+    ghost use Rattle.rewriting.specs.inside.Steps.{Near, sees_neighbour, sees_itself, moved_in, moved_of, at_shift};
+
+    // Whether there is a record beside this one, in the interval.
+    pub(crate) fn sees_neighbour(self) -> bool
+        ensures { result ≡ sees_neighbour self }
+    {
+        self.neighbour
+            .is_some_and(|other| inside(self.record.interval, self.here, other))
+    }
+
+    // Whether the record here is in its own interval: 0 is in the shifted interval.
+    pub(crate) fn sees_itself(self) -> bool
+        ensures { result ≡ sees_itself self }
+    {
+        inside_now(self.record.interval, self.shift, self.here)
+    }
+
+    // What the gap to the record beside makes of the shift; none where it is gone, or there is no record.
+    pub(crate) fn moved(self) -> Option<usize>
+        ensures { (moved_of result ≡ moved_in self) × Near result }
+    {
+        self.neighbour.and_then(|other| moved(self.record.interval, self.shift, self.here, other))
+    }
+
+    // The step at shift n.
+    pub(crate) fn at_shift(self, n: usize) -> Step
+        requires { n < 256 }
+        ensures { (h : n < 256) × (result ≡ at_shift self n h) }
+    {
+        let mut turn = self;
+        turn.shift = n;
+        turn
+    }
 }
 
 // How many records the rule has, how many parameters m, and how many places the area has for past rows.

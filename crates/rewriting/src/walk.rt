@@ -1,15 +1,16 @@
-// The loops over a rule's records: their forms into a table, their rows into an area.
+// The loops over a rule's records: their forms into a table, their rows into an area. Each counts along where the
+// parameters of a record begin: it writes into what it is lent at each turn, and of a fold's or an iterator's closure
+// that does so a proof would know nothing.
 ghost use Rattle.std.specs.Prelude.{◌≡◌, ◌*◌, ◌≤◌, length};
 ghost use Rattle.rewriting.specs.Known.{words_for};
 ghost use Rattle.rewriting.specs.Plans.{Sound, HoldsForms};
-ghost use Rattle.rewriting.specs.inside.Steps.{Fair};
 ghost use Rattle.rewriting.specs.inside.Walks.{step_in, Apart, Puts, Walked};
 ghost use Rattle.rewriting.specs.Clauses.{FormsOfClause};
 
 use crate::form::form_row;
 use crate::row::{Row, own_at, step_row};
 use crate::rule::{count_of, record_at};
-use crate::step::{Moment, Neighbour, Plan, Step};
+use crate::step::{Moment, Plan, Step};
 use forms::area::store;
 
 // The forms of the first `records` records of the rule, in a table.
@@ -33,9 +34,11 @@ pub(crate) fn step_at(
     first: usize,
     m: usize,
     here: Moment,
-    neighbour: Neighbour,
+    neighbour: Option<u32>,
 ) -> Step
-    ensures { result ≡ step_in list.now k first m here neighbour }
+    requires { (m ≤ 12) × (first ≤ 12) }
+    ensures { (few : m ≤ 12) × (within : first ≤ 12)
+        × (result ≡ step_in list.now k first m here neighbour few within) }
 {
     let record = record_at(list, k);
     Step {
@@ -60,14 +63,12 @@ fn record_rows(
     scratch: usize,
     held: usize,
 )
-    requires { Fair step × Apart step count scratch held }
+    requires { Apart step count scratch held }
     ensures { Puts row step count forms.now k area.old scratch held area.new }
 {
     let own = own_at(row, scratch);
     for n in 0..count {
-        let mut turn = step;
-        turn.shift = n;
-        let made = step_row(row, turn, forms, k, area, scratch, held);
+        let made = step_row(row, step.at_shift(n), forms, k, area, scratch, held);
         store(area, own + step.first + n, made);
     }
 }
@@ -78,7 +79,7 @@ pub(crate) fn rule_rows(
     list: &[u8],
     plan: Plan,
     here: Moment,
-    near: Neighbour,
+    near: Option<u32>,
     held: usize,
     forms: &[u64],
     area: &mut [u64],

@@ -3,22 +3,11 @@ use console::{arg, same};
 use std::env::Env;
 
 // Nothing, the past rows and the remainder after each line, or more behind the word of each record.
-#[derive(Clone, Copy)]
+#[derive(Clone, Copy, Debug, PartialEq, Eq)]
 pub(crate) enum Wanted {
     Nothing,
     Rows,
     More,
-}
-
-impl Wanted {
-    // Whether more is wanted behind a word.
-    pub(crate) fn is_more(self) -> bool {
-        match self {
-            Wanted::Nothing => false,
-            Wanted::Rows => false,
-            Wanted::More => true,
-        }
-    }
 }
 
 // What is wanted by an argument: nothing by one that is missing, and by any other word.
@@ -26,10 +15,10 @@ pub(crate) fn wanted_by(rt: &impl Env, argument: usize) -> Wanted {
     let mut word = [0u8; 8];
     let n = arg(rt, argument, &mut word);
     if same(&word[..n], b"rows") {
-        return Wanted::Rows;
+        Wanted::Rows
+    } else if same(&word[..n], b"more") {
+        Wanted::More
+    } else {
+        Wanted::Nothing
     }
-    if same(&word[..n], b"more") {
-        return Wanted::More;
-    }
-    Wanted::Nothing
 }

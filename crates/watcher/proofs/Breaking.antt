@@ -3,12 +3,10 @@
 use mathlib.Core.Path.{◌≡◌, refl, sym, ap, ap₂, ◌∙◌}
 use mathlib.Core.Bool.{Bool, true, false, ◌||◌}
 use mathlib.Core.List.{List, []}
-use Prim.Native.Nat.{ℕ, ◌*◌, ◌%◌, ◌^◌, ◌≤◌, ◌<◌, min}
+use Prim.Native.Nat.{ℕ, ◌≤◌, min}
 use native.Mathlib.Nat.{le_refl}
 use native.Mathlib.Omega.{arith}
-use lib.Dec.{leb}
 use lib.ListN.{length}
-use Rattle.ground.proofs.Bits.{one_shl}
 use Rattle.forms.specs.Area.{row_at}
 use Rattle.forms.specs.Form.{Form}
 use Rattle.meaning.specs.Rule.{Node, parameters, Entry}
@@ -23,49 +21,12 @@ use Rattle.rewriting.proofs.Placed.{read_past}
 use Rattle.rewriting.proofs.TidyRows.{bits_same, zeros_same, past_same, unused_fine}
 use Rattle.rewriting.proofs.ShapedRows.{rows_fine, rows_shaped}
 use Rattle.watcher.specs.declared.state.Watcher.{Watcher}
-use Rattle.watcher.specs.declared.state.Phase.{Phase}
-use Rattle.watcher.specs.declared.state.Phase.TheVariants.{Fresh, Running, Closed}
-use Rattle.watcher.specs.declared.state.Verdict.{Verdict}
 use Rattle.watcher.specs.Limits.{most_parameters, list_bytes}
 use Rattle.watcher.specs.Numbers.{Stage, fresh, running, closed, stage_of}
 use Rattle.watcher.specs.State.{rule_of, parameters_of, start_refuses, not_zeros_behind, signals_above}
 use Rattle.watcher.specs.State.{wrong_in_phase, broken_state}
 use Rattle.watcher.proofs.Decoded.{neither}
-use Rattle.watcher.proofs.HeldLaws.{held_some, held_most, held_kinds, held_few}
-
--- the bits of a running signal word, by the phase
-module _ (signals : ℕ) (p : Phase) where
-  pub above_fresh : p ≡ Fresh → false ≡ signals_above signals (stage_of p)
-  unfolding signals_above stage_of
-  above_fresh e = rw e
-
-  pub above_running : (time word : ℕ) → p ≡ Running time word → signals < 64
-      → leb ((1 * 2 ^ signals) % 2 ^ 64) word ≡ signals_above signals (stage_of p)
-  unfolding signals_above stage_of
-  above_running time word e h = rw e (ap (λ x. leb x word) (one_shl signals h))
-
-  pub above_closed : (v : Verdict) → p ≡ Closed v → false ≡ signals_above signals (stage_of p)
-  unfolding signals_above stage_of
-  above_closed v e = rw e
-
--- the rows, by the phase
-module _ (w : Watcher) (ws : List ℕ) where
-  pub phase_fresh : (r : Bool) → w.phase ≡ Fresh → r ≡ not_zero_from most_parameters 0 ws
-      → r ≡ wrong_in_phase w ws (stage_of w.phase)
-  unfolding wrong_in_phase stage_of
-  phase_fresh r e q = rw e q
-
-  pub phase_running : (m time signals : ℕ) (r : Bool) → w.phase ≡ Running time signals → m ≡ parameters_of w
-      → r ≡ wrong_rows (rule_in w.rule w.records) m (record { time = time; signals = signals }) (past_in m ws)
-      → r ≡ wrong_in_phase w ws (stage_of w.phase)
-  unfolding wrong_in_phase stage_of rule_of
-  phase_running m time signals r e own q =
-      q ∙ ap (λ n. wrong_rows (rule_of w) n (record { time = time; signals = signals }) (past_in n ws)) own
-      ∙ ap (λ p. wrong_in_phase w ws (stage_of p)) (sym e)
-
-  pub phase_closed : (v : Verdict) → w.phase ≡ Closed v → false ≡ wrong_in_phase w ws (stage_of w.phase)
-  unfolding wrong_in_phase stage_of
-  phase_closed v e = rw e
+use Rattle.watcher.proofs.HeldLaws.{held_some, held_most, held_few}
 
 -- the rows that a state must have, by its stage: a fresh one no past row at all
 pub fresh_rows : (w : Watcher) (m : ℕ) (remainder : Form m)
@@ -102,7 +63,6 @@ sound w m long fine e =
     record {
       some = held_some w fine long;
       most = omega (arith, held_most w fine);
-      kinds = held_kinds w fine long;
       own = e;
       few = omega (arith, e, held_few w fine long);
       room = le_refl most_parameters;
@@ -116,30 +76,10 @@ own_parameters w m a e = counts_all w.rule w.records m (omega (arith, held_most 
 
 -- the tests, in the definition's order
 module _ (w : Watcher) (ws : List ℕ) where
-  pub broken_lists : start_refuses w ≡ true → true ≡ broken_state w ws
-  unfolding broken_state
-  broken_lists a = rw a
-
   module _ (a : start_refuses w ≡ false) where
-    pub broken_behind : not_zeros_behind w ≡ true → true ≡ broken_state w ws
-    unfolding broken_state
-    broken_behind b = rw (a, b)
-
     module _ (b : not_zeros_behind w ≡ false) where
-      pub broken_signals : signals_above w.signals (stage_of w.phase) ≡ true → true ≡ broken_state w ws
-      unfolding broken_state
-      broken_signals c = rw (a, b, c)
-
       module _ (c : signals_above w.signals (stage_of w.phase) ≡ false) (m : ℕ) (own : m ≡ parameters_of w) where
-        pub broken_bits : bits_above most_parameters m ws ≡ true → true ≡ broken_state w ws
-        unfolding broken_state
-        broken_bits d = rw (a, b, c, ← own, d)
-
         module _ (d : bits_above most_parameters m ws ≡ false) where
-          pub broken_unused : not_zero_from most_parameters m ws ≡ true → true ≡ broken_state w ws
-          unfolding broken_state
-          broken_unused e = rw (a, b, c, ← own, d, e)
-
           pub broken_phase : (r : Bool) → not_zero_from most_parameters m ws ≡ false
               → r ≡ wrong_in_phase w ws (stage_of w.phase) → r ≡ broken_state w ws
           unfolding broken_state

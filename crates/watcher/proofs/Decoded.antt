@@ -1,5 +1,6 @@
 -- What passes the checks of the lists is a rule of `meaning`.
 -- Assumes nothing.
+use Rattle.std.proofs.Common.{Ok, Err}
 use mathlib.Core.Path.{◌≡◌, refl, sym, ap, ◌∙◌, subst}
 use mathlib.Core.Bool.{Bool, true, false, not, ◌&&◌, ◌||◌, cond, false≢true, and-eq-true_iff}
 use mathlib.Core.Logic.{⊎_elim}
@@ -14,19 +15,18 @@ use Rattle.ground.proofs.Tabs.{tab_cong}
 use Rattle.meaning.specs.Rule.{Node, fixed, signal, both, either, next, until, previous, since}
 use Rattle.meaning.specs.Rule.{node_at, Earlier, Ordered, parameters}
 use Rattle.watcher.specs.declared.state.Refusal.{Refusal}
-use Rattle.watcher.specs.declared.state.Found.{Found}
-use Rattle.watcher.specs.declared.state.Found.TheVariants.{Fine, Refused}
+use Rattle.watcher.specs.Answers.{Found}
 use Rattle.rewriting.specs.Decode.{byte_of}
 use Rattle.watcher.specs.Rules.{records_of, wrong_length_in, wrong_length, used_bytes, uses}
-use Rattle.watcher.specs.Rules.{names_right, used_right}
+use Rattle.watcher.specs.Rules.{fair_limits, names_right, used_right}
 use Rattle.rewriting.specs.Decode.{record_in, node_in, rule_in}
 use Rattle.watcher.specs.Rules.{byte_breaks, rule_breaks, has_twins}
 use Rattle.watcher.specs.Signals.{wrong_signals, names_missing}
-use Rattle.watcher.specs.Lists.{first_refusal, list_tests, lists_refusal}
+use Rattle.watcher.specs.Lists.{first_refusal, rule_refusal, list_tests, lists_refusal}
 use Rattle.watcher.specs.Rules.{many_parameters}
-use Rattle.watcher.specs.Limits.{most_parameters}
+use Rattle.watcher.specs.Limits.{most_parameters, list_bytes}
 use Rattle.rewriting.proofs.Rules.{length_rule_in, node_in_lem, node_past, node_same}
-use Rattle.rewriting.proofs.ByKind.{by_kind}
+use Rattle.rewriting.proofs.ByKind.{by_byte, number_of_kind}
 use Rattle.watcher.proofs.Checking.{breaks_some}
 
 -- each test of the lists fails
@@ -38,12 +38,12 @@ pub record Accepted (rule signals : List ℕ) : Type 0 where
   pub listed : wrong_signals signals ≡ false
   pub named : names_missing rule (records_of signals) ≡ false
 
-pub first_fine : (b : Bool) (r : Refusal) (f : Found) → cond b (Refused r) f ≡ Fine → (b ≡ false) × (f ≡ Fine)
+pub first_fine : (b : Bool) (r : Refusal) (f : Found) → cond b (Err r) f ≡ Ok tt → (b ≡ false) × (f ≡ Ok tt)
 first_fine true r f e = let z : ◌≡◌ {A = ℕ} 0 1 = cc in let y : ⊥ = omega arith in absurd y
 first_fine false r f e = (refl, e)
 
 module _ (rule signals : List ℕ) where
-  pub fine_tests : lists_refusal rule signals ≡ Fine → Accepted rule signals
+  pub fine_tests : lists_refusal rule signals ≡ Ok tt → Accepted rule signals
   unfolding lists_refusal list_tests first_refusal
   fine_tests e =
       let a = first_fine (wrong_length rule) _ _ e in
@@ -54,7 +54,7 @@ module _ (rule signals : List ℕ) where
       let g = first_fine (names_missing rule (records_of signals)) _ _ f.1 in
       record { long = a.0; laid = b.0; apart = c.0; few = d.0; listed = f.0; named = g.0 }
 
-  pub tests_fine : Accepted rule signals → lists_refusal rule signals ≡ Fine
+  pub tests_fine : Accepted rule signals → lists_refusal rule signals ≡ Ok tt
   unfolding lists_refusal list_tests first_refusal
   tests_fine a = rw (a.long, a.laid, a.apart, a.few, a.listed, a.named)
 
@@ -79,6 +79,14 @@ length_fine list e =
     let m : length list / 8 ≤ 16 = ltb-false _ _ b.1 in
     record { whole = omega arith; some = omega arith; most = omega arith }
 
+-- a list of the right length is no longer than a list may be, and so is a rule that passes its tests
+pub length_most : (list : List ℕ) → wrong_length list ≡ false → length list ≤ list_bytes
+length_most list e = let w = length_fine list e in omega (arith, w.whole, w.most)
+
+pub rule_most : (rule : List ℕ) → Ok tt ≡ rule_refusal rule → length rule ≤ list_bytes
+unfolding rule_refusal first_refusal
+rule_most rule e = length_most rule (first_fine (wrong_length rule) _ _ (sym e)).0
+
 -- no byte of a record breaks the layout
 abbrev pub Keeps : List ℕ → ℕ → Type 0
 Keeps list k = (i : ℕ) → i < 8 → byte_breaks list k i ≡ false
@@ -91,16 +99,24 @@ pub record Laid (list : List ℕ) (k : ℕ) : Type 0 where
   pub left : (byte_of list k 0 ≡ 3 → ⊥) → uses (byte_of list k 0) 1 ≡ true → byte_of list k 1 < k
   pub right : uses (byte_of list k 0) 2 ≡ true → byte_of list k 2 < k
 
+-- what a kind wants at byte i
+abbrev right_by : List ℕ → (k i kind : ℕ) → Bool
+right_by list k i kind =
+    cond (eqb i 0) (leb 1 kind && leb kind 9)
+    (cond (eqb i 1) (names_right kind (byte_of list k 1) k)
+    (cond (eqb i 2) (names_right kind (byte_of list k 2) k) (fair_limits (record_in list k).interval)))
+
 -- a used byte of a record that keeps the layout is what the kind wants there
 byte_fine : (list : List ℕ) (k i : ℕ) → Keeps list k → i < 8
-    → (eqb i 0 || uses (byte_of list k 0) i) ≡ true → used_right (record_in list k) k i ≡ true
-unfolding byte_breaks
+    → (eqb i 0 || uses (byte_of list k 0) i) ≡ true → right_by list k i (byte_of list k 0) ≡ true
+unfolding byte_breaks used_right record_in
 byte_fine list k i e h u =
-    ap (λ b. cond b (used_right (record_in list k) k i) (eqb (byte_of list k i) 0)) (sym u)
+    ap (right_by list k i) (sym (number_of_kind (byte_of list k 0)))
+    ∙ ap (λ b. cond b (used_right (record_in list k) k i) (eqb (byte_of list k i) 0)) (sym u)
     ∙ not-false _ (e i h)
 
 pub record_fine : (list : List ℕ) (k : ℕ) → Keeps list k → Laid list k
-unfolding record_in used_right names_right uses used_bytes
+unfolding names_right uses used_bytes
 record_fine list k e =
     record {
       low = leb-true 1 kind kinds.0;
@@ -137,9 +153,9 @@ Names c (since l r v) = Unit {0}
 -- the record that bytes in the layout hold
 pub node_fine : (list : List ℕ) (k c : ℕ) → Laid list k → (byte_of list k 0 ≡ 3 → byte_of list k 1 < c)
     → Earlier k (node_in list k) × Names c (node_in list k)
-unfolding node_in record_in Earlier uses used_bytes
+unfolding node_in Earlier uses used_bytes
 node_fine list k c a named =
-    by_kind (λ x. Earlier k x × Names c x) (record_in list k) (λ q. (tt, tt)) (λ q. (tt, tt)) (λ q. (tt, named q))
+    by_byte (λ x. Earlier k x × Names c x) kind _ _ _ (λ q. (tt, tt)) (λ q. (tt, tt)) (λ q. (tt, named q))
     (λ q. (children q refl, tt)) (λ q. (children q refl, tt)) (λ q. (left q refl, tt)) (λ q. (children q refl, tt))
     (λ q. (left q refl, tt))
     (λ o. let q : kind ≡ 9 = omega (arith, a.high, o a.low) in (children q refl, tt))

@@ -1,9 +1,11 @@
--- Horizons as numbers: how a record's comes from those of the records before it, and the rule's.
+-- Horizons in minutes: how a record's comes from those of the records before it, and the rule's.
 -- Assumes nothing.
-use mathlib.Core.Path.{◌≡◌, refl, sym, ap, ◌∙◌, subst}
+use Rattle.std.proofs.Common.{Option, Some, None}
+use mathlib.Core.Path.{◌≡◌, refl, sym, ap, ap₂, ◌∙◌, subst}
 use mathlib.Core.Bool.{Bool, true, false}
+use mathlib.Core.Logic.{◌⊎◌, ⊎_elim}
 use mathlib.Core.List.{List}
-use Prim.Native.Nat.{ℕ, suc, ◌+◌, ◌-◌, ◌*◌, ◌≤◌, ◌<◌}
+use Prim.Native.Nat.{ℕ, zero, suc, ◌+◌, ◌-◌, ◌*◌, ◌≤◌, ◌<◌}
 use native.Mathlib.Nat.{le_antisymm}
 use native.Mathlib.Decide.{dec_lt}
 use native.Mathlib.Numerals.{add-one}
@@ -12,10 +14,8 @@ use lib.Dec.{eqb}
 use lib.ListN.{length, get_or, set, replicate, get_or-eq_default}
 use lib.Seq.{get_or-set_same, get_or-set_other}
 use borrow.Author.Tests.{eqb-true, eqb-false}
-use Rattle.ground.proofs.Numbers.{zero_at}
-use Rattle.meaning.specs.Interval as interval
 use Rattle.meaning.specs.Rule.{Node}
-use Rattle.meaning.specs.Horizon.{Horizon, within, never, larger, later, horizon_of, horizons, horizon}
+use Rattle.meaning.specs.Horizon.{Horizon, never, larger, later, horizon_of, horizons, horizon}
 use Rattle.meaning.proofs.Horizons.{later_never, length_horizons, horizons_low, horizons_new}
 use Rattle.rewriting.specs.declared.step.Interval.{Interval}
 use Rattle.rewriting.specs.declared.step.Record.{Record}
@@ -23,22 +23,11 @@ use Rattle.rewriting.specs.Decode.{interval_for, node_in, rule_in, node_for}
 use Rattle.rewriting.specs.Clauses.{EndlessClause}
 use Rattle.rewriting.proofs.Rules.{length_rule_in, node_in_lem}
 use Rattle.rewriting.proofs.Ends.{later_onward, later_between}
-use Rattle.rewriting.proofs.ByKind.{over, by_kind, node_next, node_until, node_previous}
-use Rattle.watcher.specs.declared.state.Wait.TheVariants.{Forever, Minutes}
-use Rattle.watcher.specs.declared.horizon.Sides.{Sides}
+use Rattle.rewriting.specs.declared.kind.Kind.{Kind}
+use Rattle.rewriting.specs.declared.kind.Kind.TheVariants.{True, False, Signal, And, Xor, Next, Until, Previous}
+use Rattle.rewriting.proofs.ByKind.{LikeSince, over, node_by, is_kind, kind_since}
 use Rattle.watcher.specs.Numbers.{horizon_for}
-use Rattle.watcher.specs.inside.Horizons.{code_of, Coded, Small, OfLarger, OfLater, SidesOf, OfRecord}
-
--- the number 0 is no horizon, and any other is one
-none_code : (x : Horizon) → code_of x ≡ 0 → x ≡ never
-unfolding code_of
-none_code never e = refl
-none_code (within h) e = let z : ⊥ = omega arith in absurd z
-
-some_code : (x : Horizon) (r : ℕ) → r ≡ code_of x → (r ≡ 0 → ⊥) → x ≡ within (r - 1)
-unfolding code_of
-some_code never r e n = absurd (n e)
-some_code (within h) r e n = ap within (omega arith)
+use Rattle.watcher.specs.inside.Horizons.{Told, UpTo, Small, OfRecord}
 
 -- the horizons of the other records stay
 horizons_other : (rule : List Node) (k j : ℕ) → (j ≡ k → ⊥)
@@ -53,170 +42,128 @@ horizons_other rule k j n = go (dec_lt j k)
         get_or-eq_default (horizons rule (suc k)) never over
         ∙ sym (get_or-eq_default (horizons rule k) never past)
 
-module _ (a b : ℕ) where
-  pub larger_first : a ≡ 0 → OfLarger a b 0
-  unfolding larger code_of
-  larger_first e x y p q = ap (λ z. code_of (larger z y)) (sym (none_code x (sym p ∙ e)))
+-- with no upper end there is no limit, and none stays none
+module _ (v : Interval) (b : Bool) (tells : EndlessClause v b) (a : Option ℕ) where
+  pub later_endless : b ≡ true → horizon_for None ≡ later (interval_for v) (horizon_for a)
+  unfolding horizon_for
+  later_endless e = sym (later_onward v b tells (horizon_for a) e)
 
-  pub larger_second : b ≡ 0 → OfLarger a b 0
-  unfolding larger code_of
-  larger_second e never y p q = refl
-  larger_second e (within h) y p q = ap (λ z. code_of (larger (within h) z)) (sym (none_code y (sym q ∙ e)))
+  pub later_high : b ≡ false → (h : ℕ) → a ≡ Some h
+      → horizon_for (Some (v.high + h)) ≡ later (interval_for v) (horizon_for a)
+  unfolding horizon_for
+  later_high e h is = sym (ap (λ x. later (interval_for v) (horizon_for x)) is ∙ later_between v b tells h e)
 
-  pub larger_up : (a ≡ 0 → ⊥) → (b ≡ 0 → ⊥) → a < b → OfLarger a b b
-  unfolding larger code_of
-  larger_up n m h never y p q = absurd (n p)
-  larger_up n m h (within i) never p q = absurd (m q)
-  larger_up n m h (within i) (within j) p q = omega arith
+  pub later_none : a ≡ None → horizon_for None ≡ later (interval_for v) (horizon_for a)
+  unfolding horizon_for
+  later_none is = sym (ap (λ x. later (interval_for v) (horizon_for x)) is ∙ later_never (interval_for v))
 
-  pub larger_down : (a ≡ 0 → ⊥) → (b ≡ 0 → ⊥) → b ≤ a → OfLarger a b a
-  unfolding larger code_of
-  larger_down n m h never y p q = absurd (n p)
-  larger_down n m h (within i) never p q = absurd (m q)
-  larger_down n m h (within i) (within j) p q = omega arith
+pub up_to_more : (n m : ℕ) (a : Option ℕ) → n ≤ m → UpTo n a → UpTo m a
+up_to_more n m None l h = tt
+up_to_more n m (Some x) l h = omega arith
 
-module _ (v : Interval) (b : Bool) (tells : EndlessClause v b) (a : ℕ) where
-  pub later_endless : b ≡ true → OfLater (interval_for v) a 0
-  unfolding code_of
-  later_endless e x p = ap code_of (sym (later_onward v b tells x e))
-
-  pub later_high : b ≡ false → (a ≡ 0 → ⊥) → OfLater (interval_for v) a (v.high + a)
-  unfolding code_of
-  later_high e n never p = absurd (n p)
-  later_high e n (within h) p =
-      let q : v.high + a ≡ v.high + h + 1 = omega arith in q ∙ ap code_of (sym (later_between v b tells h e))
-
-pub later_none : (v : interval.Interval) (a : ℕ) → a ≡ 0 → OfLater v a 0
-unfolding code_of
-later_none v a e x p = sym (ap (λ z. code_of (later v z)) (none_code x (sym p ∙ e)) ∙ ap code_of (later_never v))
-
--- the number of a record's horizon, by its kind
-module _ (d : Record) (codes : List ℕ) (k : ℕ) where
-  pub sides : (left right more : ℕ) → Small codes k → left ≡ get_or codes d.left 0 → right ≡ get_or codes d.right 0
-      → OfLarger left right more → ((n : ℕ) → left ≤ n → right ≤ n → more ≤ n)
-      → SidesOf d codes k (record { left = left; both = more })
-  sides left right more small e q made least =
-      record {
-        first = e;
-        joins = λ earlier coded. made _ _ (e ∙ coded d.left) (q ∙ coded d.right);
-        low = below left d.left e;
-        most = least (256 * k) (below left d.left e) (below right d.right q);
-      }
-    where
-      below : (r j : ℕ) → r ≡ get_or codes j 0 → r ≤ 256 * k
-      below r j p = subst (λ x. x ≤ 256 * k) (sym p) (small j)
-
-  -- the answer, and that it is small
-  abbrev Answers : ℕ → Type 0
-  Answers r = OfRecord d codes r × (r ≤ 256 * (k + 1))
-
-  of_kind : (x : Node) (r : ℕ) → node_for d ≡ x
-      → ((earlier : List Horizon) → Coded codes earlier → r ≡ code_of (horizon_of earlier x)) → OfRecord d codes r
-  of_kind x r e h earlier coded = h earlier coded ∙ ap (λ y. code_of (horizon_of earlier y)) (sym e)
+-- a record's horizon, by its kind
+module _ (d : Record) (minutes : List (Option ℕ)) where
+  of_kind : (kind : Kind) (r : Option ℕ) → d.kind ≡ kind
+      → ((earlier : List Horizon) → Told minutes earlier
+      → horizon_for r ≡ horizon_of earlier (node_by kind d.left d.right (over d))) → OfRecord d minutes r
+  of_kind kind r e h earlier told = is_kind d (λ x. horizon_for r ≡ horizon_of earlier x) kind e (h earlier told)
 
   -- constants and signals
-  pub record_plain : 1 ≤ d.kind → d.kind < 4 → Answers 1
-  unfolding horizon_of code_of
-  record_plain h l = (
-    λ earlier coded.
-        by_kind (λ x. 1 ≡ code_of (horizon_of earlier x)) d (λ q. refl) (λ q. refl) (λ q. refl)
-        (λ q. absurd (omega (arith, q))) (λ q. absurd (omega (arith, q))) (λ q. absurd (omega (arith, q)))
-        (λ q. absurd (omega (arith, q))) (λ q. absurd (omega (arith, q))) (λ o. absurd (omega (arith, o h))),
-    omega arith,
-  )
+  pub record_plain : (d.kind ≡ True) ⊎ ((d.kind ≡ False) ⊎ (d.kind ≡ Signal)) → OfRecord d minutes (Some 0)
+  unfolding horizon_of horizon_for
+  record_plain e =
+      ⊎_elim (λ q. of_kind True (Some 0) q (λ earlier told. refl))
+      (⊎_elim (λ q. of_kind False (Some 0) q (λ earlier told. refl))
+      (λ q. of_kind Signal (Some 0) q (λ earlier told. refl))) e
 
-  module _ (sides : Sides) (s : SidesOf d codes k sides) where
-    pub record_next : (r : ℕ) → d.kind ≡ 6 → OfLater (over d) sides.left r → r ≤ sides.left + 256 → Answers r
-    unfolding horizon_of
-    record_next r e h l =
-        (of_kind _ r (node_next d e) (λ earlier coded. h _ (s.first ∙ coded d.left)), omega (arith, s.low))
+  module _ (left right both : Option ℕ) (e : left ≡ get_or minutes d.left None)
+      (q : right ≡ get_or minutes d.right None)
+      (made : horizon_for both ≡ larger (horizon_for left) (horizon_for right)) where
+    first : (earlier : List Horizon) → Told minutes earlier → horizon_for left ≡ get_or earlier d.left never
+    first earlier told = ap horizon_for e ∙ told d.left
 
-    pub record_until : (r : ℕ) → d.kind ≡ 7 → OfLater (over d) sides.both r → r ≤ sides.both + 256 → Answers r
-    unfolding horizon_of
-    record_until r e h l =
-        (of_kind _ r (node_until d e) (λ earlier coded. h _ (s.joins earlier coded)), omega (arith, s.most))
+    joins : (earlier : List Horizon) → Told minutes earlier
+        → horizon_for both ≡ larger (get_or earlier d.left never) (get_or earlier d.right never)
+    joins earlier told = made ∙ ap₂ larger (first earlier told) (ap horizon_for q ∙ told d.right)
 
-    pub record_previous : d.kind ≡ 8 → Answers sides.left
+    pub record_next : (r : Option ℕ) → d.kind ≡ Next → horizon_for r ≡ later (over d) (horizon_for left)
+        → OfRecord d minutes r
     unfolding horizon_of
-    record_previous e = (
-      of_kind _ sides.left (node_previous d e) (λ earlier coded. s.first ∙ coded d.left),
-      omega (arith, s.low),
-    )
+    record_next r k h = of_kind Next r k (λ earlier told. h ∙ ap (later (over d)) (first earlier told))
+
+    pub record_until : (r : Option ℕ) → d.kind ≡ Until → horizon_for r ≡ later (over d) (horizon_for both)
+        → OfRecord d minutes r
+    unfolding horizon_of
+    record_until r k h = of_kind Until r k (λ earlier told. h ∙ ap (later (over d)) (joins earlier told))
+
+    pub record_previous : d.kind ≡ Previous → OfRecord d minutes left
+    unfolding horizon_of
+    record_previous k = of_kind Previous left k first
 
     -- and, exclusive or, since
-    pub record_larger : (d.kind ≡ 6 → ⊥) → (d.kind ≡ 7 → ⊥) → (d.kind ≡ 8 → ⊥) → (1 ≤ d.kind → 4 ≤ d.kind)
-        → Answers sides.both
+    pub record_larger : (d.kind ≡ And) ⊎ ((d.kind ≡ Xor) ⊎ LikeSince d.kind) → OfRecord d minutes both
     unfolding horizon_of
-    record_larger a b c h = (
-      λ earlier coded.
-          let made = s.joins earlier coded in
-          by_kind (λ x. sides.both ≡ code_of (horizon_of earlier x)) d
-          (λ q. absurd (omega (arith, q, h (omega (arith, q))))) (λ q. absurd (omega (arith, q, h (omega (arith, q)))))
-          (λ q. absurd (omega (arith, q, h (omega (arith, q))))) (λ q. made) (λ q. made) (λ q. absurd (a q))
-          (λ q. absurd (b q)) (λ q. absurd (c q)) (λ o. made),
-      omega (arith, s.most),
-    )
+    record_larger e =
+        ⊎_elim (λ q. of_kind And both q joins)
+        (⊎_elim (λ q. of_kind Xor both q joins)
+        (λ q earlier told. kind_since d (λ x. horizon_for both ≡ horizon_of earlier x) (joins earlier told) q)) e
 
 -- the table: none, one record more, and the rule's
+none_at : (n j : ℕ) → get_or {A = Option ℕ} (replicate n None) j None ≡ None
+none_at zero j = refl
+none_at (suc n) zero = refl
+none_at (suc n) (suc j) = none_at n j
+
+pub small_none : (n k : ℕ) → Small (replicate n None) k
+small_none n k j = subst (UpTo (256 * k)) (sym (none_at n j)) tt
+
+pub small_more : (minutes : List (Option ℕ)) (k : ℕ) (r : Option ℕ) → k < length minutes → Small minutes k
+    → UpTo (256 * (k + 1)) r → Small (set minutes k r) (k + 1)
+small_more minutes k r l h c j = go (eqb j k) refl
+  where
+    go : (t : Bool) → eqb j k ≡ t → UpTo (256 * (k + 1)) (get_or (set minutes k r) j None)
+    go true e =
+        subst (λ x. UpTo (256 * (k + 1)) (get_or (set minutes k r) x None)) (sym (eqb-true j k e))
+        (subst (UpTo (256 * (k + 1))) (sym (get_or-set_same minutes k r None l)) c)
+    go false e =
+        subst (UpTo (256 * (k + 1))) (sym (get_or-set_other minutes k j r None (eqb-false j k e)))
+        (up_to_more (256 * k) _ (get_or minutes j None) (omega arith) (h j))
+
 module _ (list : List ℕ) (records : ℕ) where
-  pub coded_none : (n : ℕ) → Coded (replicate n 0) (horizons (rule_in list records) 0)
-  unfolding horizons code_of
-  coded_none n j = zero_at n j
+  pub told_none : (n : ℕ) → Told (replicate n None) (horizons (rule_in list records) 0)
+  unfolding horizons horizon_for
+  told_none n j = ap horizon_for (none_at n j)
 
-  pub small_none : (n k : ℕ) → Small (replicate n 0) k
-  small_none n k j = subst (λ x. x ≤ 256 * k) (sym (zero_at n j)) (omega arith)
-
-  pub small_more : (codes : List ℕ) (k code : ℕ) → k < length codes → Small codes k → code ≤ 256 * (k + 1)
-      → Small (set codes k code) (k + 1)
-  small_more codes k code l h c j = go (eqb j k) refl
-    where
-      go : (t : Bool) → eqb j k ≡ t → get_or (set codes k code) j 0 ≤ 256 * (k + 1)
-      go true e =
-          subst (λ x. get_or (set codes k code) x 0 ≤ 256 * (k + 1)) (sym (eqb-true j k e))
-          (subst (λ x. x ≤ 256 * (k + 1)) (sym (get_or-set_same codes k code 0 l)) c)
-      go false e =
-          subst (λ x. x ≤ 256 * (k + 1)) (sym (get_or-set_other codes k j code 0 (eqb-false j k e)))
-          (omega (arith, h j))
-
-  pub coded_more : (codes : List ℕ) (d : Record) (k code : ℕ) → k < records → k < length codes
-      → node_for d ≡ node_in list k → OfRecord d codes code → Coded codes (horizons (rule_in list records) k)
-      → Coded (set codes k code) (horizons (rule_in list records) (k + 1))
-  coded_more codes d k code h l e made old j =
-      go (eqb j k) refl ∙ ap (λ n. code_of (get_or (horizons rule n) j never)) (sym (add-one k))
+  pub told_more : (minutes : List (Option ℕ)) (d : Record) (k : ℕ) (r : Option ℕ) → k < records → k < length minutes
+      → node_for d ≡ node_in list k → OfRecord d minutes r → Told minutes (horizons (rule_in list records) k)
+      → Told (set minutes k r) (horizons (rule_in list records) (k + 1))
+  told_more minutes d k r h l e made old j =
+      go (eqb j k) refl ∙ ap (λ n. get_or (horizons rule n) j never) (sym (add-one k))
     where
       rule : List Node
       rule = rule_in list records
 
-      new : code ≡ code_of (get_or (horizons rule (suc k)) k never)
+      new : horizon_for r ≡ get_or (horizons rule (suc k)) k never
       new =
           made (horizons rule k) old
-          ∙ ap (λ x. code_of (horizon_of (horizons rule k) x)) (e ∙ sym (node_in_lem list records k h))
-          ∙ ap code_of (sym (horizons_new rule k))
+          ∙ ap (horizon_of (horizons rule k)) (e ∙ sym (node_in_lem list records k h))
+          ∙ sym (horizons_new rule k)
 
-      go : (t : Bool) → eqb j k ≡ t → get_or (set codes k code) j 0 ≡ code_of (get_or (horizons rule (suc k)) j never)
+      go : (t : Bool) → eqb j k ≡ t
+          → horizon_for (get_or (set minutes k r) j None) ≡ get_or (horizons rule (suc k)) j never
       go true q =
-          subst (λ x. get_or (set codes k code) x 0 ≡ code_of (get_or (horizons rule (suc k)) x never))
-          (sym (eqb-true j k q)) (get_or-set_same codes k code 0 l ∙ new)
+          subst (λ x. horizon_for (get_or (set minutes k r) x None) ≡ get_or (horizons rule (suc k)) x never)
+          (sym (eqb-true j k q)) (ap horizon_for (get_or-set_same minutes k r None l) ∙ new)
       go false q =
-          get_or-set_other codes k j code 0 (eqb-false j k q) ∙ old j
-          ∙ ap code_of (sym (horizons_other rule k j (eqb-false j k q)))
+          ap horizon_for (get_or-set_other minutes k j r None (eqb-false j k q)) ∙ old j
+          ∙ sym (horizons_other rule k j (eqb-false j k q))
 
   -- the last entry is the rule's horizon
-  last_entry : (codes : List ℕ) (k : ℕ) → k ≤ records → records ≤ k → Coded codes (horizons (rule_in list records) k)
-      → get_or codes (records - 1) 0 ≡ code_of (horizon (rule_in list records))
+  pub last_told : (minutes : List (Option ℕ)) (k : ℕ) → k ≤ records → records ≤ k
+      → Told minutes (horizons (rule_in list records) k)
+      → horizon_for (get_or minutes (records - 1) None) ≡ horizon (rule_in list records)
   unfolding horizon
-  last_entry codes k a b coded =
-      coded (records - 1)
-      ∙ ap (λ n. code_of (get_or (horizons (rule_in list records) n) (records - 1) never)) (le_antisymm a b)
-      ∙ ap (λ n. code_of (get_or (horizons (rule_in list records) n) (n - 1) never))
-      (sym (length_rule_in list records))
-
-  module _ (codes : List ℕ) (k last : ℕ) (a : k ≤ records) (b : records ≤ k)
-      (coded : Coded codes (horizons (rule_in list records) k)) (is : last ≡ get_or codes (records - 1) 0) where
-    pub waits_forever : last ≡ 0 → horizon_for Forever ≡ horizon (rule_in list records)
-    unfolding horizon_for
-    waits_forever e = sym (none_code _ (sym (is ∙ last_entry codes k a b coded) ∙ e))
-
-    pub waits_minutes : (last ≡ 0 → ⊥) → horizon_for (Minutes (last - 1)) ≡ horizon (rule_in list records)
-    unfolding horizon_for
-    waits_minutes n = sym (some_code _ last (is ∙ last_entry codes k a b coded) n)
+  last_told minutes k a b told =
+      told (records - 1)
+      ∙ ap (λ n. get_or (horizons (rule_in list records) n) (records - 1) never) (le_antisymm a b)
+      ∙ ap (λ n. get_or (horizons (rule_in list records) n) (n - 1) never) (sym (length_rule_in list records))

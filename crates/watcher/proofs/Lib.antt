@@ -9,7 +9,6 @@ pub mod Decoded
 pub mod Places
 pub mod PlaceExamples
 pub mod Checking
-pub mod Refusing
 pub mod HeldLaws
 pub mod Breaking
 pub mod Horizons

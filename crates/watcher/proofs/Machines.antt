@@ -1,5 +1,6 @@
 -- Start, feed and close hand back what a machine can hand in again.
 -- Assumes nothing.
+use Rattle.std.proofs.Common.{Ok, Err}
 use mathlib.Core.Path.{◌≡◌, refl, sym, subst}
 use mathlib.Core.Bool.{Bool}
 use mathlib.Core.Logic.{⊎_elim}
@@ -17,8 +18,7 @@ use Rattle.forms.specs.Form.{Form}
 use Rattle.rewriting.specs.Known.{words_for, area_of}
 use Rattle.rewriting.proofs.Placed.{length_area_of, small_area_of}
 use Rattle.watcher.specs.declared.state.Watcher.{Watcher}
-use Rattle.watcher.specs.declared.state.Found.{Found}
-use Rattle.watcher.specs.declared.state.Found.TheVariants.{Fine, Refused}
+use Rattle.watcher.specs.Answers.{Found}
 use Rattle.watcher.specs.Limits.{most_parameters, list_bytes}
 use Rattle.watcher.specs.Rules.{records_of}
 use Rattle.watcher.specs.Records.{time_of, signal_word, entry_of}
@@ -26,8 +26,7 @@ use Rattle.watcher.specs.Calls.{padded, zero_state, fresh_state, running_state, 
 use Rattle.watcher.specs.Calls.{start_with, start_of, feed_refusal, feed_with, feed_of, close_refusal, close_with}
 use Rattle.watcher.specs.Calls.{close_of}
 use Rattle.watcher.specs.Machine.{MachineBytes, MachineWords, MachinePhase, MachineState}
-use Rattle.watcher.proofs.Decoded.{fine_tests, accepted_list}
-use Rattle.watcher.proofs.Refusing.{length_most}
+use Rattle.watcher.proofs.Decoded.{length_most, fine_tests, accepted_list}
 use Rattle.watcher.proofs.Testing.{start_passed}
 
 -- a table of bytes
@@ -100,10 +99,10 @@ unfolding records_of
 few_records list h = omega arith
 
 pub machine_fresh : (rule signals ws : List ℕ) → MachineBytes rule → MachineBytes signals
-    → start_refusal rule signals ws ≡ Fine → MachineState (fresh_state rule signals)
+    → start_refusal rule signals ws ≡ Ok tt → MachineState (fresh_state rule signals)
 unfolding fresh_state padded MachinePhase
 machine_fresh rule signals ws br bs e =
-    let a = fine_tests rule signals (start_passed rule signals ws Fine (sym e) refl).0 in
+    let a = fine_tests rule signals (start_passed rule signals ws (Ok tt) (sym e) refl).0 in
     let l = accepted_list rule signals a in
     record {
       long_rule = length_tab list_bytes (λ i. get_or rule i 0);
@@ -151,8 +150,8 @@ machine_start rule signals ws br bs b = go (start_refusal rule signals ws) refl
   where
     go : (f : Found) → start_refusal rule signals ws ≡ f
         → MachineState (start_with f rule signals ws).0.next × MachineWords (start_with f rule signals ws).1
-    go Fine e = (machine_fresh rule signals ws br bs e, area_words_lem _ [] _)
-    go (Refused r) e = (machine_zero, b)
+    go (Ok tt) e = (machine_fresh rule signals ws br bs e, area_words_lem _ [] _)
+    go (Err r) e = (machine_zero, b)
 
 module _ (w : Watcher) (s : MachineState w) where
   pub machine_feed : (bytes ws : List ℕ) → MachineBytes bytes → MachineWords ws
@@ -161,8 +160,8 @@ module _ (w : Watcher) (s : MachineState w) where
   machine_feed bytes ws p b = go (feed_refusal w bytes ws)
     where
       go : (f : Found) → MachineState (feed_with f w bytes ws).0.next × MachineWords (feed_with f w bytes ws).1
-      go Fine = (machine_running w w.list w.signals bytes s p, area_words_lem _ _ _)
-      go (Refused r) = (s, b)
+      go (Ok tt) = (machine_running w w.list w.signals bytes s p, area_words_lem _ _ _)
+      go (Err r) = (s, b)
 
   pub machine_close : (ws : List ℕ) → MachineWords ws
       → MachineState (close_of w ws).0.next × MachineWords (close_of w ws).1
@@ -170,5 +169,5 @@ module _ (w : Watcher) (s : MachineState w) where
   machine_close ws b = go (close_refusal w ws)
     where
       go : (f : Found) → MachineState (close_with f w ws).0.next × MachineWords (close_with f w ws).1
-      go Fine = (machine_closed w _ s, area_words_lem _ _ _)
-      go (Refused r) = (s, b)
+      go (Ok tt) = (machine_closed w _ s, area_words_lem _ _ _)
+      go (Err r) = (s, b)

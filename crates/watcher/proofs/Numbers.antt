@@ -1,12 +1,15 @@
 -- The numbers that each call tests, in order; answers with the same number, or the same value, are the same answer.
 -- Assumes nothing.
+use Rattle.std.proofs.Common.{Option, Some, None}
 use mathlib.Core.Path.{◌≡◌, refl, sym, ap, ◌∙◌}
 use mathlib.Core.Bool.{Bool, true, false}
 use mathlib.Core.List.{List, [], ◌∷◌}
 use Prim.Native.Nat.{ℕ, ◌≤◌}
+use denote.Enum.Bare.{sameb}
 use lib.Dec.{lit≤}
 use lib.ListN.{get_or}
 use Rattle.watcher.specs.declared.state.Watcher.{Watcher}
+use Rattle.watcher.specs.contracts.state.Verdict.{the_type}
 use Rattle.watcher.specs.declared.state.Verdict.{Verdict}
 use Rattle.watcher.specs.declared.state.Verdict.TheVariants.{Kept, Broken}
 use Rattle.watcher.specs.declared.state.Refusal.{Refusal}
@@ -18,13 +21,17 @@ use Rattle.watcher.specs.declared.state.Word.{Word}
 use Rattle.watcher.specs.declared.state.Word.TheVariants as word
 use Rattle.watcher.specs.declared.state.Phase.{Phase}
 use Rattle.watcher.specs.declared.state.Phase.TheVariants as phase
-use Rattle.watcher.specs.declared.state.Wait.{Wait}
-use Rattle.watcher.specs.declared.state.Wait.TheVariants as wait
 use Rattle.watcher.specs.Numbers.{word_of, saying, verdict_value, verdict_for, horizon_for}
 use Rattle.watcher.specs.Numbers.{Stage, fresh, running, closed, stage_of, refusal_number}
 use Rattle.watcher.specs.Numbers.{numbers_of}
 use Rattle.watcher.specs.Lists.{list_tests}
 use Rattle.watcher.specs.Calls.{start_tests, state_tests, feed_tests, close_tests}
+
+-- whether a verdict is kept is the value that it says
+pub kept_value : (v : Verdict) → sameb the_type v Kept ≡ verdict_value v
+unfolding verdict_value
+kept_value Kept = refl
+kept_value Broken = refl
 
 -- the numbers of start's tests, of feed's and of close's
 pub start_numbers : (rule signals ws : List ℕ)
@@ -121,14 +128,14 @@ pub stage_one : (a b : Phase) → stage_of a ≡ stage_of b → a ≡ b
 stage_one a b e = sym (seen a) ∙ ap staged e ∙ seen b
 
 -- the answer that a horizon is
-abbrev waited : Horizon → Wait
-waited never = wait.Forever
-waited (within h) = wait.Minutes h
+abbrev waited : Horizon → Option ℕ
+waited never = None
+waited (within h) = Some h
 
-told : (a : Wait) → waited (horizon_for a) ≡ a
+told : (a : Option ℕ) → waited (horizon_for a) ≡ a
 unfolding horizon_for
-told wait.Forever = refl
-told (wait.Minutes h) = refl
+told None = refl
+told (Some h) = refl
 
-pub horizon_one : (a b : Wait) → horizon_for a ≡ horizon_for b → a ≡ b
+pub horizon_one : (a b : Option ℕ) → horizon_for a ≡ horizon_for b → a ≡ b
 horizon_one a b e = sym (told a) ∙ ap waited e ∙ told b

@@ -1,5 +1,6 @@
 -- The clause of each public function, `specs/Clauses.antt`, leaves room for one outcome only.
 -- Assumes nothing.
+use Rattle.std.proofs.Common.{Option}
 use mathlib.Core.Path.{◌≡◌, sym, ap, ◌∙◌}
 use mathlib.Core.Bool.{Bool}
 use mathlib.Core.List.{List}
@@ -11,11 +12,9 @@ use Rattle.watcher.specs.declared.readings.Tested.{Tested}
 use Rattle.watcher.specs.declared.state.Watcher.{Watcher}
 use Rattle.watcher.specs.declared.state.Started.{Started}
 use Rattle.watcher.specs.declared.state.Fed.{Fed}
-use Rattle.watcher.specs.declared.state.End.{End}
+use Rattle.watcher.specs.Answers.{Found, End}
 use Rattle.watcher.specs.declared.state.Ended.{Ended}
-use Rattle.watcher.specs.declared.state.Found.{Found}
 use Rattle.watcher.specs.declared.state.Refusal.{Refusal}
-use Rattle.watcher.specs.declared.state.Wait.{Wait}
 use Rattle.watcher.specs.declared.state.Word.{Word}
 use Rattle.watcher.specs.declared.state.Verdict.{Verdict}
 use Rattle.watcher.specs.declared.state.Phase.{Phase}
@@ -95,5 +94,5 @@ pub only_close : (w : Watcher) (ws : List ℕ) (o o' : Ended × List ℕ) → Cl
     → o ≡ o'
 only_close w ws = only_one _
 
-pub only_horizon : (w : Watcher) (o o' : Wait) → HorizonClause w o → HorizonClause w o' → o ≡ o'
+pub only_horizon : (w : Watcher) (o o' : Option ℕ) → HorizonClause w o → HorizonClause w o' → o ≡ o'
 only_horizon w o o' a b = horizon_one o o' (a ∙ sym b)

@@ -1,27 +1,26 @@
 -- What is handed in and passes 7 and 12 is ready for the rewriting.
 -- Assumes nothing.
+use Rattle.std.proofs.Common.{Ok}
 use mathlib.Core.Path.{◌≡◌, refl, sym, ◌∙◌}
-use mathlib.Core.Bool.{Bool, true, false}
+use mathlib.Core.Bool.{Bool, false}
 use mathlib.Core.List.{List}
 use Prim.Native.Nat.{ℕ, ◌≤◌, ◌<◌}
 use native.Mathlib.Omega.{arith}
 use lib.ListN.{length}
-use Rattle.meaning.specs.Horizon.{Horizon, never, horizon}
-use Rattle.rewriting.specs.Decode.{rule_in}
 use Rattle.rewriting.specs.Known.{Tidy}
-use Rattle.rewriting.specs.Plans.{Sound}
+use Rattle.rewriting.specs.declared.step.Plan.{Plan}
+use Rattle.rewriting.specs.Plans.{Sound, HoldsForms, Ready}
 use Rattle.rewriting.proofs.TidyRows.{tidy}
 use Rattle.watcher.specs.declared.state.Watcher.{Watcher}
-use Rattle.watcher.specs.declared.state.Found.TheVariants.{Fine}
 use Rattle.watcher.specs.Limits.{most_records, most_parameters, list_bytes}
 use Rattle.watcher.specs.Rules.{records_of}
 use Rattle.watcher.specs.Lists.{lists_refusal}
 use Rattle.watcher.specs.State.{rule_of, parameters_of, start_refuses}
-use Rattle.watcher.specs.Calls.{wait_of}
 use Rattle.watcher.specs.inside.Turns.{plan_of, plan_in, Passed}
-use Rattle.watcher.proofs.Decoded.{fine_tests, length_fine, record_fine, accepted_laid, accepted_few}
+use Rattle.watcher.proofs.Decoded.{fine_tests, length_fine, accepted_few}
 use Rattle.watcher.proofs.HeldLaws.{held_most, held_some, held_few}
 use Rattle.watcher.proofs.Breaking.{sound, Unbroken, unbroken}
+use Rattle.watcher.proofs.Turning.{sound_as, plan_records, tidy_as}
 
 module _ (w : Watcher) (ws : List ℕ) (passed : Passed w ws) where
   fine : Unbroken w ws
@@ -42,17 +41,24 @@ module _ (w : Watcher) (ws : List ℕ) (passed : Passed w ws) where
       tidy most_parameters (parameters_of w) ws (passed_few held) passed.long passed.small fine.bits
       fine.unused
 
+  -- the plan that is made is ready for the table, and with it for the rewriting
+  module _ (plan : Plan) (is : plan ≡ plan_of w) (held : list_bytes ≡ length w.rule) where
+    pub passed_plan : Sound w.rule plan × (plan.records ≤ most_records)
+    passed_plan = (sound_as _ _ _ is (passed_sound held), plan_records _ _ _ is passed_most)
+
+    pub passed_ready : (table : List ℕ) → HoldsForms w.rule plan table → Ready w.rule plan table ws
+    passed_ready table forms = (passed_plan.0, forms, tidy_as w ws plan is (passed_tidy held))
+
 -- lists that are accepted
-pub lists_most : (rule signals : List ℕ) → lists_refusal rule signals ≡ Fine → records_of rule ≤ most_records
+pub lists_most : (rule signals : List ℕ) → lists_refusal rule signals ≡ Ok tt → records_of rule ≤ most_records
 lists_most rule signals e = (length_fine rule (fine_tests rule signals e).long).most
 
-pub lists_sound : (rule signals : List ℕ) → lists_refusal rule signals ≡ Fine → Sound rule (plan_in rule)
+pub lists_sound : (rule signals : List ℕ) → lists_refusal rule signals ≡ Ok tt → Sound rule (plan_in rule)
 lists_sound rule signals e =
     let a = fine_tests rule signals e in
     record {
       some = (length_fine rule a.long).some;
       most = omega (arith, lists_most rule signals e);
-      kinds = λ k h. (record_fine rule k (accepted_laid rule signals a k h)).low;
       own = refl;
       few = accepted_few rule signals a;
       room = omega arith;
@@ -60,13 +66,5 @@ lists_sound rule signals e =
 
 -- the horizon by whether start refuses
 module _ (w : Watcher) (b : Bool) (is : b ≡ start_refuses w) where
-  pub wait_refused : b ≡ true → never ≡ wait_of w
-  unfolding wait_of
-  wait_refused e = rw (← is, e)
-
-  pub wait_held : b ≡ false → (h : Horizon) → h ≡ horizon (rule_in w.rule w.records) → h ≡ wait_of w
-  unfolding wait_of rule_of
-  wait_held e h q = rw (← is, e) q
-
   pub wait_some : b ≡ false → list_bytes ≡ length w.rule → (0 < w.records) × (w.records ≤ most_records)
   wait_some e held = (held_some w (sym is ∙ e) (sym held), held_most w (sym is ∙ e))

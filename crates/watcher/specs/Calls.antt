@@ -1,5 +1,5 @@
 -- Start, feed, ask and close: what each answers, the next state, and the whole work area afterwards.
-use Rattle.std.specs.Prelude.{Bool, true, false, not, cond, List, [], ◌∷◌, ◌++◌, ℕ, eqb, ltb}
+use Rattle.std.specs.Prelude.{Bool, true, false, not, cond, List, [], ◌∷◌, ◌++◌, ℕ, eqb, ltb, Ok, Err}
 use Rattle.std.specs.Prelude.{length, get_or, replicate}
 use Rattle.ground.specs.Fold.{tab}
 use Rattle.meaning.specs.Rule.{Node, Entry, parameters}
@@ -11,12 +11,8 @@ use Rattle.rewriting.specs.Known.{form_at, known_in, area_of}
 use Rattle.watcher.specs.declared.state.Watcher.{Watcher}
 use Rattle.watcher.specs.declared.state.Phase.TheVariants as phase
 use Rattle.watcher.specs.declared.state.Refusal.TheVariants as refusal
-use Rattle.watcher.specs.declared.state.Found.{Found}
-use Rattle.watcher.specs.declared.state.Found.TheVariants as found
+use Rattle.watcher.specs.Answers.{Found, End}
 use Rattle.watcher.specs.declared.state.Report.{Report}
-use Rattle.watcher.specs.declared.state.Answer.TheVariants as answer
-use Rattle.watcher.specs.declared.state.End.{End}
-use Rattle.watcher.specs.declared.state.End.TheVariants as end
 use Rattle.watcher.specs.declared.state.Started.{Started}
 use Rattle.watcher.specs.declared.state.Fed.{Fed}
 use Rattle.watcher.specs.declared.state.Ended.{Ended}
@@ -110,10 +106,10 @@ fresh_state rule signals =
 
 -- start: past rows zero, the remainder is the rule's form
 unfoldable pub start_with : Found → (rule signals ws : List ℕ) → Started × List ℕ
-start_with (found.Refused r) rule signals ws = (record { found = found.Refused r; next = zero_state }, ws)
-start_with found.Fine rule signals ws =
+start_with (Err r) rule signals ws = (record { found = Err r; next = zero_state }, ws)
+start_with (Ok tt) rule signals ws =
     let held : List Node = rule_in rule (records_of rule) in (
-      record { found = found.Fine; next = fresh_state rule signals },
+      record { found = Ok tt; next = fresh_state rule signals },
       area_of most_parameters (parameters held) [] (words.start (parameters held) held),
     )
 
@@ -153,12 +149,12 @@ report_of m s = record { word = saying (word m s.remainder) }
 
 -- feed: the report, and the rows of what is known after the record
 unfoldable pub feed_with : Found → Watcher → (bytes ws : List ℕ) → Fed × List ℕ
-feed_with (found.Refused r) w bytes ws = (record { answer = answer.Refused r; next = w }, ws)
-feed_with found.Fine w bytes ws =
+feed_with (Err r) w bytes ws = (record { answer = Err r; next = w }, ws)
+feed_with (Ok tt) w bytes ws =
     let m : ℕ = parameters_of w in
     let e : Entry = entry_of w.list w.signals bytes in
     let s : Known m = known_next m (rule_of w) ws e (stage_of w.phase) in (
-      record { answer = answer.Accepted (report_of m s); next = running_state w e },
+      record { answer = Ok (report_of m s); next = running_state w e },
       area_of most_parameters m s.past s.remainder,
     )
 
@@ -176,20 +172,20 @@ value_now w ws =
 
 -- ask: the verdict that says this value
 unfoldable pub ask_with : Found → Watcher → List ℕ → End
-ask_with (found.Refused r) w ws = end.Refused r
-ask_with found.Fine w ws = end.Closed (verdict_for (value_now w ws))
+ask_with (Err r) w ws = Err r
+ask_with (Ok tt) w ws = Ok (verdict_for (value_now w ws))
 
 unfoldable pub ask_of : Watcher → List ℕ → End
 ask_of w ws = ask_with (close_refusal w ws) w ws
 
 -- close: the value were this the last record; the past rows stay, and the remainder is that constant
 unfoldable pub close_with : Found → Watcher → List ℕ → Ended × List ℕ
-close_with (found.Refused r) w ws = (record { answer = end.Refused r; next = w }, ws)
-close_with found.Fine w ws =
+close_with (Err r) w ws = (record { answer = Err r; next = w }, ws)
+close_with (Ok tt) w ws =
     let m : ℕ = parameters_of w in
     let s : Known m = known_now m ws (stage_of w.phase) in
     let b : Bool = value_now w ws in (
-      record { answer = end.Closed (verdict_for b); next = closed_state w b },
+      record { answer = Ok (verdict_for b); next = closed_state w b },
       area_of most_parameters m s.past (close m (rule_of w) s),
     )
 

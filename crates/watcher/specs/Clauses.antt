@@ -1,16 +1,14 @@
 -- The clause of each public function: of what is handed in, and the answer with the whole area at exit.
-use Rattle.std.specs.Prelude.{◌≡◌, Bool, List, ℕ}
+use Rattle.std.specs.Prelude.{◌≡◌, Bool, List, ℕ, Option, is_err}
 use Rattle.rewriting.specs.declared.step.Moment.{Moment}
 use Rattle.rewriting.specs.Plans.{entry_for}
 use Rattle.watcher.specs.declared.readings.Tested.{Tested}
 use Rattle.watcher.specs.declared.state.Watcher.{Watcher}
 use Rattle.watcher.specs.declared.state.Started.{Started}
 use Rattle.watcher.specs.declared.state.Fed.{Fed}
-use Rattle.watcher.specs.declared.state.End.{End}
+use Rattle.watcher.specs.Answers.{Found, End}
 use Rattle.watcher.specs.declared.state.Ended.{Ended}
-use Rattle.watcher.specs.declared.state.Found.{Found}
 use Rattle.watcher.specs.declared.state.Refusal.{Refusal}
-use Rattle.watcher.specs.declared.state.Wait.{Wait}
 use Rattle.watcher.specs.declared.state.Word.{Word}
 use Rattle.watcher.specs.declared.state.Verdict.{Verdict}
 use Rattle.watcher.specs.declared.state.Phase.{Phase}
@@ -20,7 +18,6 @@ use Rattle.watcher.specs.Lists.{rule_refusal, lists_refusal}
 use Rattle.watcher.specs.Signals.{wrong_signals}
 use Rattle.watcher.specs.Records.{wrong_record, time_of, test_of, signal_word}
 use Rattle.watcher.specs.Numbers.{refusal_number, decided, verdict_value, stage_of, last_in, horizon_for}
-use Rattle.watcher.specs.State.{is_refused}
 use Rattle.watcher.specs.Calls.{zero_state, start_refusal, start_of, feed_refusal, feed_of, ask_of, close_of, wait_of}
 
 -- the limits, as numbers
@@ -29,7 +26,7 @@ LimitsClause o = o ≡ limits_of
 
 -- whether something is refused
 abbrev pub IsRefusedClause : Found → Bool → Type 0
-IsRefusedClause found o = o ≡ is_refused found
+IsRefusedClause found o = o ≡ is_err found
 
 -- the word that says what a verdict says
 abbrev pub WordClause : Verdict → Word → Type 0
@@ -100,5 +97,5 @@ abbrev pub CloseClause : Watcher → (ws : List ℕ) → Ended × List ℕ → T
 CloseClause w ws o = o ≡ close_of w ws
 
 -- how long the rule can stay open
-abbrev pub HorizonClause : Watcher → Wait → Type 0
+abbrev pub HorizonClause : Watcher → Option ℕ → Type 0
 HorizonClause w o = horizon_for o ≡ wait_of w

@@ -1,4 +1,5 @@
 pub mod Limits
+pub mod Answers
 pub mod Places
 pub mod Rules
 pub mod Signals

@@ -1,10 +1,9 @@
 -- What is refused of the lists that start is given, in document 01's order (refusals 1 to 6).
-use Rattle.std.specs.Prelude.{Bool, cond, List, [], ◌∷◌, ◌++◌, ℕ}
+use Rattle.std.specs.Prelude.{Bool, cond, List, [], ◌∷◌, ◌++◌, ℕ, Option, Ok, Err}
 use Rattle.watcher.specs.declared.state.Refusal.{Refusal}
 use Rattle.watcher.specs.declared.state.Refusal.TheVariants.{RuleLength, RuleRecord, RuleTwins, RuleParameters}
 use Rattle.watcher.specs.declared.state.Refusal.TheVariants.{SignalList, SignalMissing}
-use Rattle.watcher.specs.declared.state.Found.{Found}
-use Rattle.watcher.specs.declared.state.Found.TheVariants.{Fine, Refused}
+use Rattle.watcher.specs.Answers.{Found}
 use Rattle.rewriting.specs.Decode.{record_bytes}
 use Rattle.watcher.specs.declared.state.Place.{Place}
 use Rattle.watcher.specs.Rules.{records_of, wrong_length, byte_breaks, first_broken, rule_breaks, first_twins}
@@ -18,14 +17,14 @@ pub record Test : Type 0 where
 
 -- the refusal of the first test that holds
 unfoldable pub first_refusal : List Test → Found
-first_refusal [] = Fine
-first_refusal (t ∷ ts) = cond t.holds (Refused t.gives) (first_refusal ts)
+first_refusal [] = Ok tt
+first_refusal (t ∷ ts) = cond t.holds (Err t.gives) (first_refusal ts)
 
 -- the refusal by the place of the first broken byte, or of the first twins; the number is the same for every place
-abbrev pub broken_refusal : (rule : List ℕ) → Place → Refusal
+abbrev pub broken_refusal : (rule : List ℕ) → Option Place → Refusal
 broken_refusal rule place = RuleRecord
 
-abbrev pub twins_refusal : Place → Refusal
+abbrev pub twins_refusal : Option Place → Refusal
 twins_refusal place = RuleTwins
 
 -- refusals 1 to 3, of a rule by itself

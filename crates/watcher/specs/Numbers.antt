@@ -1,5 +1,5 @@
 -- Document 01's number or value for each case of an answer, and what an answer says.
-use Rattle.std.specs.Prelude.{◌≡◌, ℕ, Bool, true, false, List, map}
+use Rattle.std.specs.Prelude.{◌≡◌, ℕ, Bool, true, false, List, map, Option, Some, None, Ok, Err}
 use Rattle.meaning.specs.Rule.{Entry}
 use Rattle.meaning.specs.Horizon.{Horizon, within, never}
 use Rattle.meaning.specs.Words as words
@@ -9,19 +9,12 @@ use Rattle.watcher.specs.declared.state.Phase.{Phase}
 use Rattle.watcher.specs.declared.state.Phase.TheVariants as phase
 use Rattle.watcher.specs.declared.state.Verdict.{Verdict}
 use Rattle.watcher.specs.declared.state.Verdict.TheVariants as verdict
-use Rattle.watcher.specs.declared.state.Wait.{Wait}
-use Rattle.watcher.specs.declared.state.Wait.TheVariants as wait
 use Rattle.watcher.specs.declared.state.Refusal.{Refusal}
 use Rattle.watcher.specs.declared.state.Refusal.TheVariants.{RuleLength, RuleRecord, RuleTwins, RuleParameters}
 use Rattle.watcher.specs.declared.state.Refusal.TheVariants.{SignalList, SignalMissing}
 use Rattle.watcher.specs.declared.state.Refusal.TheVariants.{AreaLength, LogRecord, LogTime}
 use Rattle.watcher.specs.declared.state.Refusal.TheVariants.{AlreadyClosed, NothingFed, BrokenState}
-use Rattle.watcher.specs.declared.state.Found.{Found}
-use Rattle.watcher.specs.declared.state.Found.TheVariants as found
-use Rattle.watcher.specs.declared.state.Answer.{Answer}
-use Rattle.watcher.specs.declared.state.Answer.TheVariants as answer
-use Rattle.watcher.specs.declared.state.End.{End}
-use Rattle.watcher.specs.declared.state.End.TheVariants as end
+use Rattle.watcher.specs.Answers.{Found, Answer, End}
 use Rattle.watcher.specs.Lists.{Test}
 
 -- the word of the meaning
@@ -43,17 +36,17 @@ decided false = word.Broken
 
 -- the record was accepted with this word
 unfoldable pub Says : Answer → Word → Type 0
-Says (answer.Accepted report) w = report.word ≡ w
-Says (answer.Refused r) w = ⊥
+Says (Ok report) w = report.word ≡ w
+Says (Err r) w = ⊥
 
 -- what an answer to a record, and to closing, says of the tests
 unfoldable pub found_in : Answer → Found
-found_in (answer.Accepted report) = found.Fine
-found_in (answer.Refused r) = found.Refused r
+found_in (Ok report) = Ok tt
+found_in (Err r) = Err r
 
 unfoldable pub found_at : End → Found
-found_at (end.Closed v) = found.Fine
-found_at (end.Refused r) = found.Refused r
+found_at (Ok v) = Ok tt
+found_at (Err r) = Err r
 
 -- the value that a verdict says the log has
 unfoldable pub verdict_value : Verdict → Bool
@@ -66,9 +59,9 @@ verdict_for true = verdict.Kept
 verdict_for false = verdict.Broken
 
 -- the horizon that an answer gives
-unfoldable pub horizon_for : Wait → Horizon
-horizon_for wait.Forever = never
-horizon_for (wait.Minutes h) = within h
+unfoldable pub horizon_for : Option ℕ → Horizon
+horizon_for None = never
+horizon_for (Some h) = within h
 
 -- what a phase says of the log: nothing fed, its last record, or its value at the end
 pub data Stage : Type 0 where

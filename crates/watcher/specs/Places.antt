@@ -1,23 +1,17 @@
 -- Where a search of a list first finds something: by record, then by a second number, its byte or an earlier record.
-use Rattle.std.specs.Prelude.{◌≡◌, Bool, true, false, cond, ℕ, ◌<◌}
+use Rattle.std.specs.Prelude.{◌≡◌, Bool, true, false, cond, ℕ, ◌<◌, Option, Some, None}
+use Rattle.std.specs.Option.{option_or}
 use Rattle.ground.specs.Fold.{fold}
 use Rattle.watcher.specs.declared.state.Place.{Place}
-use Rattle.watcher.specs.declared.state.Place.TheVariants.{Nowhere, At}
 
--- something was found
-unfoldable pub is_found : Place → Bool
-is_found Nowhere = false
-is_found (At i j) = true
-
--- the first of two that was found
-unfoldable pub or_else : Place → Place → Place
-or_else Nowhere later = later
-or_else (At i j) later = At i j
+-- the place at a record and a second number
+abbrev pub at : (i j : ℕ) → Option Place
+at i j = Some (record { «record» = i; second = j })
 
 -- the first i below n, and with it the first j below i's bound, where the test holds
-unfoldable pub first_where : (n : ℕ) (bound : ℕ → ℕ) (test : ℕ → ℕ → Bool) → Place
+unfoldable pub first_where : (n : ℕ) (bound : ℕ → ℕ) (test : ℕ → ℕ → Bool) → Option Place
 first_where n bound test =
-    fold or_else Nowhere n (λ i. fold or_else Nowhere (bound i) (λ j. cond (test i j) (At i j) Nowhere))
+    fold option_or None n (λ i. fold option_or None (bound i) (λ j. cond (test i j) (at i j) None))
 
 -- no place before record n passes the test
 abbrev pub Clear : (bound : ℕ → ℕ) (test : ℕ → ℕ → Bool) → ℕ → Type 0

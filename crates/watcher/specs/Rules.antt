@@ -1,15 +1,15 @@
 -- The rule list: its layout, and how many parameters its rule may have (document 01, "Lists on disk").
 use Rattle.std.specs.Prelude.{Bool, true, false, not, ◌&&◌, ◌||◌, cond, List, [], ◌∷◌, ℕ, ◌/◌, ◌%◌}
-use Rattle.std.specs.Prelude.{eqb, leb, ltb, length, get_or}
+use Rattle.std.specs.Prelude.{eqb, leb, ltb, length, get_or, Option, is_some}
 use Rattle.ground.specs.Fold.{every}
 use Rattle.meaning.specs.Rule.{parameters}
 use Rattle.rewriting.specs.declared.step.Interval.{Interval}
 use Rattle.rewriting.specs.declared.step.Record.{Record}
-use Rattle.rewriting.specs.Decode.{record_bytes, kind_true, kind_signal, kind_since, byte_in, byte_of}
+use Rattle.rewriting.specs.Decode.{record_bytes, kind_true, kind_signal, kind_since, kind_number, byte_in, byte_of}
 use Rattle.rewriting.specs.Decode.{endless, record_in, rule_in}
 use Rattle.watcher.specs.declared.state.Place.{Place}
 use Rattle.watcher.specs.Limits.{most_records, most_signals, most_parameters}
-use Rattle.watcher.specs.Places.{is_found, first_where}
+use Rattle.watcher.specs.Places.{first_where}
 
 -- how many records of so many bytes a list has, and how many rule or signal records
 abbrev pub records_in : (size : ℕ) → List ℕ → ℕ
@@ -56,9 +56,10 @@ names_right kind named k = ltb named (cond (eqb kind kind_signal) most_signals k
 -- byte i of record k is what the kind wants there: a kind 1 to 9, a signal or an earlier record, fair limits
 unfoldable pub used_right : Record → (k i : ℕ) → Bool
 used_right d k i =
-    cond (eqb i 0) (leb kind_true d.kind && leb d.kind kind_since)
-    (cond (eqb i 1) (names_right d.kind d.left k)
-    (cond (eqb i 2) (names_right d.kind d.right k) (fair_limits d.interval)))
+    let kind = kind_number d.kind in
+    cond (eqb i 0) (leb kind_true kind && leb kind kind_since)
+    (cond (eqb i 1) (names_right kind d.left k)
+    (cond (eqb i 2) (names_right kind d.right k) (fair_limits d.interval)))
 
 -- byte i of record k breaks the layout: byte 0 is no kind, a used byte is wrong, or an unused one is not zero
 unfoldable pub byte_breaks : List ℕ → (k i : ℕ) → Bool
@@ -66,24 +67,24 @@ byte_breaks list k i =
     not (cond (eqb i 0 || uses (byte_of list k 0) i) (used_right (record_in list k) k i) (eqb (byte_of list k i) 0))
 
 -- where the layout is first broken, byte by byte: the lowest record, and its lowest byte
-unfoldable pub first_broken : (size : ℕ) → (breaks : List ℕ → ℕ → ℕ → Bool) → List ℕ → Place
+unfoldable pub first_broken : (size : ℕ) → (breaks : List ℕ → ℕ → ℕ → Bool) → List ℕ → Option Place
 first_broken size breaks list = first_where (records_in size list) (λ k. size) (breaks list)
 
 -- some record of the rule breaks the layout
 abbrev pub rule_breaks : List ℕ → Bool
-rule_breaks rule = is_found (first_broken record_bytes byte_breaks rule)
+rule_breaks rule = is_some (first_broken record_bytes byte_breaks rule)
 
 -- records i and j have the same bytes
 unfoldable pub same_record : (size : ℕ) → List ℕ → (i j : ℕ) → Bool
 same_record size list i j = every size (λ b. eqb (byte_in size list i b) (byte_in size list j b))
 
 -- where the first twins are: the lowest record that has an earlier twin, and its earliest twin
-unfoldable pub first_twins : (size : ℕ) → List ℕ → Place
+unfoldable pub first_twins : (size : ℕ) → List ℕ → Option Place
 first_twins size list = first_where (records_in size list) (λ i. i) (same_record size list)
 
 -- two records of the rule have the same eight bytes
 abbrev pub has_twins : List ℕ → Bool
-has_twins rule = is_found (first_twins record_bytes rule)
+has_twins rule = is_some (first_twins record_bytes rule)
 
 -- more parameters than a rule may have, counted over all its records
 unfoldable pub many_parameters : List ℕ → Bool

@@ -1,13 +1,11 @@
 -- What a state holds, and when it is broken (document 01, "Work area and state" and refusal 12).
-use Rattle.std.specs.Prelude.{Bool, true, false, not, ◌||◌, List, ℕ, ◌*◌, ◌^◌, leb, ltb, take}
+use Rattle.std.specs.Prelude.{Bool, false, not, ◌||◌, List, ℕ, ◌*◌, ◌^◌, leb, ltb, take, is_err}
 use Rattle.ground.specs.Bytes.{zeros_from}
 use Rattle.meaning.specs.Rule.{Node, parameters}
 use Rattle.rewriting.specs.Decode.{record_bytes, rule_in}
 use Rattle.rewriting.specs.Known.{past_in}
 use Rattle.rewriting.specs.Shape.{bits_above, not_zero_from, wrong_rows}
 use Rattle.watcher.specs.declared.state.Watcher.{Watcher}
-use Rattle.watcher.specs.declared.state.Found.{Found}
-use Rattle.watcher.specs.declared.state.Found.TheVariants.{Fine, Refused}
 use Rattle.watcher.specs.Limits.{most_records, most_signals, most_parameters}
 use Rattle.watcher.specs.Lists.{lists_refusal}
 use Rattle.watcher.specs.Numbers.{Stage, fresh, running, closed, stage_of}
@@ -26,15 +24,11 @@ rule_bytes w = take (record_bytes * w.records) w.rule
 unfoldable pub list_bytes_of : Watcher → List ℕ
 list_bytes_of w = take (record_bytes * w.signals) w.list
 
-unfoldable pub is_refused : Found → Bool
-is_refused Fine = false
-is_refused (Refused r) = true
-
 -- it holds a rule or list that start would refuse
 unfoldable pub start_refuses : Watcher → Bool
 start_refuses w =
     ltb most_records w.records
-    || (ltb most_signals w.signals || is_refused (lists_refusal (rule_bytes w) (list_bytes_of w)))
+    || (ltb most_signals w.signals || is_err (lists_refusal (rule_bytes w) (list_bytes_of w)))
 
 -- or not zeros behind one
 unfoldable pub not_zeros_behind : Watcher → Bool

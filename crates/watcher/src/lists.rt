@@ -1,6 +1,6 @@
 // The checks of a rule list, and how many parameters its rule has.
-ghost use Rattle.std.specs.Prelude.{◌≡◌, ◌+◌, ◌*◌, ◌<◌, ◌≤◌, length};
-ghost use Rattle.rewriting.specs.Decode.{record_bytes, record_in};
+ghost use Rattle.std.specs.Prelude.{◌≡◌, false, ℕ, get_or, ◌+◌, ◌*◌, ◌<◌, ◌≤◌, length};
+ghost use Rattle.rewriting.specs.Decode.{record_bytes, record_in, kind_number};
 ghost use Rattle.watcher.specs.Limits.{list_bytes};
 ghost use Rattle.watcher.specs.Rules.{records_of, wrong_length_in, uses, fair_limits, names_right, used_right};
 ghost use Rattle.watcher.specs.Rules.{byte_breaks, first_broken, same_record, first_twins, many_parameters};
@@ -8,40 +8,29 @@ ghost use Rattle.watcher.specs.Rules.{byte_breaks, first_broken, same_record, fi
 use crate::state::{Place, Watcher};
 use ground::bytes::byte;
 use rewriting::interval::endless;
-use rewriting::kind::{SIGNAL, SINCE, TRUE};
+use rewriting::kind::Kind;
 use rewriting::rule::{byte_of, parameters_in, record_at};
 use rewriting::step::{Interval, Record};
 
-// Kinds 0, which is none, to 9.
-const KINDS: usize = 10;
-
-// For each kind, which of the eight bytes are used: kind, left, right, zero, low, high, zero, zero.
-const USED: [[bool; Watcher::RECORD_BYTES]; KINDS] = [
-    [false, false, false, false, false, false, false, false],
-    [true, false, false, false, false, false, false, false],
-    [true, false, false, false, false, false, false, false],
-    [true, true, false, false, false, false, false, false],
-    [true, true, true, false, false, false, false, false],
-    [true, true, true, false, false, false, false, false],
-    [true, true, false, false, true, true, false, false],
-    [true, true, true, false, true, true, false, false],
-    [true, true, false, false, true, true, false, false],
-    [true, true, true, false, true, true, false, false],
-];
+// Which of a record's eight bytes its kind uses: kind, left, right, zero, low, high, zero, zero.
+fn used_bytes(kind: Kind) -> [bool; Watcher::RECORD_BYTES]
+    ensures { (i : ℕ) → get_or result i false ≡ uses (kind_number kind) i }
+{
+    match kind {
+        Kind::True | Kind::False => [true, false, false, false, false, false, false, false],
+        Kind::Signal => [true, true, false, false, false, false, false, false],
+        Kind::And | Kind::Xor => [true, true, true, false, false, false, false, false],
+        Kind::Next | Kind::Previous => [true, true, false, false, true, true, false, false],
+        Kind::Until | Kind::Since => [true, true, true, false, true, true, false, false],
+        Kind::Other(_) => [false; Watcher::RECORD_BYTES],
+    }
+}
 
 // Whether a kind uses byte `i`.
-pub(crate) fn uses(kind: usize, i: usize) -> bool
-    ensures { result ≡ uses kind i }
+pub(crate) fn uses(kind: Kind, i: usize) -> bool
+    ensures { result ≡ uses (kind_number kind) i }
 {
-    if kind < KINDS {
-        if i < Watcher::RECORD_BYTES {
-            USED[kind][i]
-        } else {
-            false
-        }
-    } else {
-        false
-    }
+    used_bytes(kind).get(i).copied().unwrap_or(false)
 }
 
 // How many records a list has.
@@ -53,22 +42,16 @@ pub(crate) fn records_of(list: &[u8]) -> usize
 }
 
 // Whether the length is not that of 1 to `most` whole records of `size` bytes.
+#[tactic(auto, unfolding(crate::specs::Rules::wrong_length_in))]
 pub(crate) fn wrong_length(list: &[u8], size: usize, most: usize) -> bool
     requires { 0 < size }
     ensures { result ≡ wrong_length_in size most list.now }
 {
-    if list.len() % size == 0 {
-        if list.len() == 0 {
-            true
-        } else {
-            most < list.len() / size
-        }
-    } else {
-        true
-    }
+    list.len() % size != 0 || list.is_empty() || most < list.len() / size
 }
 
 // Whether `low` is at most `high`, or at most 254 where there is no upper end.
+#[tactic(auto, unfolding(crate::specs::Rules::fair_limits))]
 pub(crate) fn fair_limits(interval: Interval) -> bool
     ensures { result ≡ fair_limits interval }
 {
@@ -80,64 +63,59 @@ pub(crate) fn fair_limits(interval: Interval) -> bool
 }
 
 // Whether a byte of record `k` names a signal, or else an earlier record.
-pub(crate) fn names_right(kind: u8, named: u8, k: usize) -> bool
-    ensures { result ≡ names_right kind named k }
+#[tactic(auto, unfolding(crate::specs::Rules::names_right))]
+pub(crate) fn names_right(kind: Kind, named: u8, k: usize) -> bool
+    ensures { result ≡ names_right (kind_number kind) named k }
 {
-    if kind == SIGNAL {
-        (named as usize) < Watcher::SIGNALS
-    } else {
-        (named as usize) < k
+    match kind {
+        Kind::Signal => (named as usize) < Watcher::SIGNALS,
+        _ => (named as usize) < k,
     }
 }
 
 // Whether byte `i` of record `k` is what its kind wants there.
+#[tactic(auto, unfolding(crate::specs::Rules::used_right))]
 pub(crate) fn used_right(record: Record, k: usize, i: usize) -> bool
     ensures { result ≡ used_right «record» k i }
 {
-    let kind = record.kind;
-    if i == 0 {
-        if TRUE <= kind { kind <= SINCE } else { false }
-    } else if i == 1 {
-        names_right(kind, record.left, k)
-    } else if i == 2 {
-        names_right(kind, record.right, k)
-    } else {
-        fair_limits(record.interval)
+    match i {
+        0 => !matches!(record.kind, Kind::Other(_)),
+        1 => names_right(record.kind, record.left, k),
+        2 => names_right(record.kind, record.right, k),
+        _ => fair_limits(record.interval),
     }
 }
 
 // Whether byte `i` of record `k`, which was read, breaks the layout.
+#[tactic(auto, using(rewriting::proofs::Rules::record_kind), unfolding(crate::specs::Rules::byte_breaks))]
 pub(crate) fn byte_breaks(list: &[u8], record: Record, k: usize, i: usize) -> bool
     requires { «record» ≡ record_in list.now k }
     ensures { result ≡ byte_breaks list.now k i }
 {
-    let kind = record.kind as usize;
-    if i == 0 {
-        !used_right(record, k, i)
-    } else if uses(kind, i) {
+    if i == 0 || uses(record.kind, i) {
         !used_right(record, k, i)
     } else {
         byte_of(list, k, i) != 0
     }
 }
 
-// Where the layout is first broken: the lowest record, and its lowest byte.
-pub(crate) fn first_broken(list: &[u8]) -> Place
+// Where the layout is first broken: the lowest record, and its lowest byte. It stays apart from the search for twins:
+// here a record is read once for its eight bytes, and one function for both would take two closures.
+pub(crate) fn first_broken(list: &[u8]) -> Option<Place>
     ensures { result ≡ first_broken record_bytes byte_breaks list.now }
 {
-    let records = records_of(list);
-    for k in 0..records {
+    for k in 0..records_of(list) {
         let record = record_at(list, k);
         for i in 0..Watcher::RECORD_BYTES {
             if byte_breaks(list, record, k, i) {
-                return Place::At {
+                return Some(Place {
                     record: k,
                     second: i,
-                };
+                });
             }
         }
     }
-    Place::Nowhere
+    None
 }
 
 // Whether records `i` and `j`, of `size` bytes, have the same bytes.
@@ -145,35 +123,25 @@ pub(crate) fn same_record(list: &[u8], size: usize, i: usize, j: usize) -> bool
     requires { (size * i + size ≤ length list.now) × (size * j + size ≤ length list.now) }
     ensures { result ≡ same_record size list.now i j }
 {
-    let left = size * i;
-    let right = size * j;
-    for b in 0..size {
-        if byte(list, left + b) != byte(list, right + b) {
-            return false;
-        }
-    }
-    true
+    list[size * i..size * i + size] == list[size * j..size * j + size]
 }
 
-// Where the first twins are: the lowest record that has an earlier twin, and the earliest; they end the search.
-pub(crate) fn first_twins(list: &[u8], size: usize) -> Place
+// Where the first twins are: the lowest record that has an earlier twin, and the earliest.
+pub(crate) fn first_twins(list: &[u8], size: usize) -> Option<Place>
     requires { 0 < size }
     ensures { result ≡ first_twins size list.now }
 {
-    let records = list.len() / size;
-    let mut found = Place::Nowhere;
-    'pairs: for i in 0..records {
+    for i in 0..list.len() / size {
         for j in 0..i {
             if same_record(list, size, i, j) {
-                found = Place::At {
+                return Some(Place {
                     record: i,
                     second: j,
-                };
-                break 'pairs;
+                });
             }
         }
     }
-    found
+    None
 }
 
 // Whether the rule has more parameters than it may.
@@ -181,6 +149,5 @@ pub(crate) fn many_parameters(list: &[u8]) -> bool
     requires { length list.now ≤ list_bytes }
     ensures { result ≡ many_parameters list.now }
 {
-    let records = records_of(list);
-    Watcher::PARAMETERS < parameters_in(list, records)
+    Watcher::PARAMETERS < parameters_in(list, records_of(list))
 }

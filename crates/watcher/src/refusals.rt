@@ -10,62 +10,53 @@ use crate::lists::{first_broken, first_twins, many_parameters, records_of, wrong
 use crate::readings::{time_of, wrong_record};
 use crate::shape::broken_state;
 use crate::signals::{names_missing, wrong_signals};
-use crate::state::{Found, Phase, Refusal, Watcher};
+use crate::state::{Phase, Refusal, Watcher};
 
 // What is refused of a rule by itself: refusals 1 to 3.
-pub fn check_rule(rule: &[u8]) -> Found
+#[tactic(auto, unfolding(crate::specs::Lists::rule_refusal, crate::specs::Lists::first_refusal))]
+pub fn check_rule(rule: &[u8]) -> Result<(), Refusal>
     ensures { CheckRuleClause rule.now result }
 {
     if wrong_length(rule, Watcher::RECORD_BYTES, Watcher::RECORDS) {
-        return Found::Refused(Refusal::RuleLength);
+        return Err(Refusal::RuleLength);
     }
-    let broken = first_broken(rule);
-    if broken.is_found() {
-        return Found::Refused(Refusal::RuleRecord);
+    if first_broken(rule).is_some() {
+        return Err(Refusal::RuleRecord);
     }
-    let twins = first_twins(rule, Watcher::RECORD_BYTES);
-    if twins.is_found() {
-        return Found::Refused(Refusal::RuleTwins);
+    if first_twins(rule, Watcher::RECORD_BYTES).is_some() {
+        return Err(Refusal::RuleTwins);
     }
-    Found::Fine
+    Ok(())
 }
 
 // What is refused of the lists that start is given: refusals 1 to 6.
-pub fn check_lists(rule: &[u8], signals: &[u8]) -> Found
+#[tactic(auto, using(crate::proofs::Decoded::rule_most), unfolding(crate::specs::Lists::rule_refusal, crate::specs::Lists::lists_refusal, crate::specs::Lists::list_tests, crate::specs::Lists::first_refusal))]
+pub fn check_lists(rule: &[u8], signals: &[u8]) -> Result<(), Refusal>
     ensures { CheckListsClause rule.now signals.now result }
 {
-    let found = check_rule(rule);
-    match found {
-        Found::Refused(refusal) => Found::Refused(refusal),
-        Found::Fine => {
-            if many_parameters(rule) {
-                return Found::Refused(Refusal::RuleParameters);
-            }
-            if wrong_signals(signals) {
-                return Found::Refused(Refusal::SignalList);
-            }
-            if names_missing(rule, records_of(signals)) {
-                return Found::Refused(Refusal::SignalMissing);
-            }
-            Found::Fine
-        }
+    check_rule(rule)?;
+    if many_parameters(rule) {
+        return Err(Refusal::RuleParameters);
     }
+    if wrong_signals(signals) {
+        return Err(Refusal::SignalList);
+    }
+    if names_missing(rule, records_of(signals)) {
+        return Err(Refusal::SignalMissing);
+    }
+    Ok(())
 }
 
 // What is refused of a start: refusals 1 to 7.
-pub(crate) fn start_refusal(rule: &[u8], signals: &[u8], area: &[u64]) -> Found
+#[tactic(auto, unfolding(crate::specs::Calls::start_refusal, crate::specs::Calls::wrong_area, rewriting::specs::Known::words_for, crate::specs::Lists::lists_refusal, crate::specs::Lists::list_tests, crate::specs::Lists::first_refusal))]
+pub(crate) fn start_refusal(rule: &[u8], signals: &[u8], area: &[u64]) -> Result<(), Refusal>
     ensures { result ≡ start_refusal rule.now signals.now area.now }
 {
-    let found = check_lists(rule, signals);
-    match found {
-        Found::Refused(refusal) => Found::Refused(refusal),
-        Found::Fine => {
-            if area.len() != Watcher::WORDS {
-                return Found::Refused(Refusal::AreaLength);
-            }
-            Found::Fine
-        }
+    check_lists(rule, signals)?;
+    if area.len() != Watcher::WORDS {
+        return Err(Refusal::AreaLength);
     }
+    Ok(())
 }
 
 // Whether the watcher is closed.
@@ -73,33 +64,24 @@ pub(crate) fn start_refusal(rule: &[u8], signals: &[u8], area: &[u64]) -> Found
 fn is_closed(phase: Phase) -> bool
     ensures { result ≡ is_closed (stage_of phase) }
 {
-    match phase {
-        Phase::Fresh => false,
-        Phase::Running {
-            time: _,
-            signals: _,
-        } => false,
-        Phase::Closed(_) => true,
-    }
+    matches!(phase, Phase::Closed(_))
 }
 
 // What feed, ask and close test first: refusals 7, 12 and 10.
-fn state_refusal(watcher: Watcher, area: &[u64]) -> Found
+#[tactic(auto, unfolding(crate::specs::Calls::state_tests, crate::specs::Lists::first_refusal, crate::specs::Calls::wrong_area, rewriting::specs::Known::words_for))]
+fn state_refusal(watcher: Watcher, area: &[u64]) -> Result<(), Refusal>
     ensures { result ≡ first_refusal (state_tests watcher area.now) }
 {
     if area.len() != Watcher::WORDS {
-        return Found::Refused(Refusal::AreaLength);
+        return Err(Refusal::AreaLength);
     }
-    let broken = broken_state(watcher, area);
-    let phase = watcher.phase;
-    let closed = is_closed(phase);
-    if broken {
-        return Found::Refused(Refusal::BrokenState);
+    if broken_state(watcher, area) {
+        return Err(Refusal::BrokenState);
     }
-    if closed {
-        return Found::Refused(Refusal::AlreadyClosed);
+    if is_closed(watcher.phase) {
+        return Err(Refusal::AlreadyClosed);
     }
-    Found::Fine
+    Ok(())
 }
 
 // Whether the record's time is lower than the last accepted record's.
@@ -107,14 +89,7 @@ fn state_refusal(watcher: Watcher, area: &[u64]) -> Found
 fn too_early(phase: Phase, time: u32) -> bool
     ensures { result ≡ too_early (stage_of phase) time }
 {
-    match phase {
-        Phase::Fresh => false,
-        Phase::Running {
-            time: last,
-            signals: _,
-        } => time < last,
-        Phase::Closed(_) => false,
-    }
+    matches!(phase, Phase::Running { time: last, .. } if time < last)
 }
 
 // Whether nothing was fed.
@@ -122,51 +97,34 @@ fn too_early(phase: Phase, time: u32) -> bool
 fn is_fresh(phase: Phase) -> bool
     ensures { result ≡ is_fresh (stage_of phase) }
 {
-    match phase {
-        Phase::Fresh => true,
-        Phase::Running {
-            time: _,
-            signals: _,
-        } => false,
-        Phase::Closed(_) => false,
-    }
+    matches!(phase, Phase::Fresh)
 }
 
 // Would this record be refused, and by which number: refusals 7, 12, 10, 8 and 9.
-pub(crate) fn feed_refusal(watcher: Watcher, bytes: &[u8], area: &[u64]) -> Found
+#[tactic(auto, unfolding(crate::specs::Calls::feed_refusal, crate::specs::Calls::state_tests, crate::specs::Lists::first_refusal))]
+pub(crate) fn feed_refusal(watcher: Watcher, bytes: &[u8], area: &[u64]) -> Result<(), Refusal>
     ensures { result ≡ feed_refusal watcher bytes.now area.now }
 {
-    let found = state_refusal(watcher, area);
-    match found {
-        Found::Refused(refusal) => Found::Refused(refusal),
-        Found::Fine => {
-            if wrong_record(bytes) {
-                return Found::Refused(Refusal::LogRecord);
-            }
-            let phase = watcher.phase;
-            if too_early(phase, time_of(bytes)) {
-                return Found::Refused(Refusal::LogTime);
-            }
-            Found::Fine
-        }
+    state_refusal(watcher, area)?;
+    if wrong_record(bytes) {
+        return Err(Refusal::LogRecord);
     }
+    if too_early(watcher.phase, time_of(bytes)) {
+        return Err(Refusal::LogTime);
+    }
+    Ok(())
 }
 
 // What is refused of asking and of closing: refusals 7, 12, 10 and 11.
-pub(crate) fn close_refusal(watcher: Watcher, area: &[u64]) -> Found
+#[tactic(auto, unfolding(crate::specs::Calls::close_refusal, crate::specs::Calls::state_tests, crate::specs::Lists::first_refusal))]
+pub(crate) fn close_refusal(watcher: Watcher, area: &[u64]) -> Result<(), Refusal>
     ensures { result ≡ close_refusal watcher area.now }
 {
-    let found = state_refusal(watcher, area);
-    match found {
-        Found::Refused(refusal) => Found::Refused(refusal),
-        Found::Fine => {
-            let phase = watcher.phase;
-            if is_fresh(phase) {
-                return Found::Refused(Refusal::NothingFed);
-            }
-            Found::Fine
-        }
+    state_refusal(watcher, area)?;
+    if is_fresh(watcher.phase) {
+        return Err(Refusal::NothingFed);
     }
+    Ok(())
 }
 
 impl Refusal {
@@ -175,19 +133,6 @@ impl Refusal {
     pub fn number(self) -> usize
         ensures { NumberClause self result }
     {
-        match self {
-            Refusal::RuleLength => 1,
-            Refusal::RuleRecord => 2,
-            Refusal::RuleTwins => 3,
-            Refusal::RuleParameters => 4,
-            Refusal::SignalList => 5,
-            Refusal::SignalMissing => 6,
-            Refusal::AreaLength => 7,
-            Refusal::LogRecord => 8,
-            Refusal::LogTime => 9,
-            Refusal::AlreadyClosed => 10,
-            Refusal::NothingFed => 11,
-            Refusal::BrokenState => 12,
-        }
+        self as usize
     }
 }

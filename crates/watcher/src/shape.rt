@@ -12,14 +12,13 @@ use rewriting::shape::{bits_above, not_zero_from, wrong_rows};
 use rewriting::step::{Moment, Plan};
 
 // Whether a row is not what it must be in the state's phase.
+#[tactic(auto, using(crate::proofs::Breaking::sound), unfolding(crate::specs::State::wrong_in_phase, crate::specs::Numbers::stage_of, crate::specs::State::parameters_of, crate::specs::State::rule_of))]
 fn wrong_in_phase(watcher: Watcher, m: usize, area: &[u64]) -> bool
     requires { (start_refuses watcher ≡ false) × (m ≡ parameters_of watcher)
         × (bits_above most_parameters m area.now ≡ false) }
     ensures { result ≡ wrong_in_phase watcher area.now (stage_of watcher.phase) }
 {
-    let rule = watcher.rule;
-    let phase = watcher.phase;
-    match phase {
+    match watcher.phase {
         Phase::Fresh => not_zero_from(Watcher::PARAMETERS, 0, area),
         Phase::Running { time, signals } => {
             let plan = Plan {
@@ -28,33 +27,26 @@ fn wrong_in_phase(watcher: Watcher, m: usize, area: &[u64]) -> bool
                 places: Watcher::PARAMETERS,
             };
             let last = Moment { time, signals };
-            wrong_rows(&rule, plan, last, area)
+            wrong_rows(&watcher.rule, plan, last, area)
         }
         Phase::Closed(_) => false,
     }
 }
 
 // Whether the state that is handed in is broken: refusal 12.
+#[tactic(auto, using(crate::proofs::HeldLaws::held_most, crate::proofs::HeldLaws::held_listed, crate::proofs::Breaking::own_parameters), unfolding(crate::specs::State::broken_state))]
 pub(crate) fn broken_state(watcher: Watcher, area: &[u64]) -> bool
     ensures { result ≡ broken_state watcher area.now }
 {
-    if start_refuses(watcher) {
+    if start_refuses(watcher)
+        || not_zeros_behind(watcher)
+        || signals_above(watcher.signals, watcher.phase)
+    {
         return true;
     }
-    if not_zeros_behind(watcher) {
-        return true;
-    }
-    let phase = watcher.phase;
-    if signals_above(watcher.signals, phase) {
-        return true;
-    }
-    let rule = watcher.rule;
-    let m = parameters_in(&rule, watcher.records);
+    let m = parameters_in(&watcher.rule, watcher.records);
     if bits_above(Watcher::PARAMETERS, m, area) {
         return true;
     }
-    if not_zero_from(Watcher::PARAMETERS, m, area) {
-        return true;
-    }
-    wrong_in_phase(watcher, m, area)
+    not_zero_from(Watcher::PARAMETERS, m, area) || wrong_in_phase(watcher, m, area)
 }

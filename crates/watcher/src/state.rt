@@ -1,7 +1,7 @@
 // The watcher's state, its limits, and its answers.
 ghost use Rattle.std.specs.Prelude.{◌≡◌};
-ghost use Rattle.watcher.specs.Places.{is_found};
-ghost use Rattle.watcher.specs.Clauses.{LimitsClause, IsRefusedClause, WordClause, LastClause, ZeroStateClause};
+ghost use Rattle.watcher.specs.Numbers.{verdict_for};
+ghost use Rattle.watcher.specs.Clauses.{LimitsClause, WordClause, LastClause, ZeroStateClause};
 
 use rewriting::rule::RECORD_BYTES;
 use rewriting::step::Moment;
@@ -15,7 +15,7 @@ pub enum Word {
 }
 
 // How a closed log ended.
-#[derive(Clone, Copy)]
+#[derive(Clone, Copy, Debug, PartialEq, Eq)]
 pub enum Verdict {
     Kept,
     Broken,
@@ -32,59 +32,31 @@ pub enum Phase {
 // A refusal: document 01's numbers 1 to 12, in that order.
 #[derive(Clone, Copy)]
 pub enum Refusal {
-    RuleLength,
-    RuleRecord,
-    RuleTwins,
-    RuleParameters,
-    SignalList,
-    SignalMissing,
-    AreaLength,
-    LogRecord,
-    LogTime,
-    AlreadyClosed,
-    NothingFed,
-    BrokenState,
+    RuleLength = 1,
+    RuleRecord = 2,
+    RuleTwins = 3,
+    RuleParameters = 4,
+    SignalList = 5,
+    SignalMissing = 6,
+    AreaLength = 7,
+    LogRecord = 8,
+    LogTime = 9,
+    AlreadyClosed = 10,
+    NothingFed = 11,
+    BrokenState = 12,
 }
 
-// Where a search of a list first finds something: nowhere, or at a record and, second, its byte or an earlier record.
+// Where a search of a list first finds something: at a record and, second, its byte or an earlier record.
 #[derive(Clone, Copy)]
-pub enum Place {
-    Nowhere,
-    At { record: usize, second: usize },
-}
-
-// What a check finds.
-#[derive(Clone, Copy)]
-pub enum Found {
-    Fine,
-    Refused(Refusal),
+pub struct Place {
+    pub record: usize,
+    pub second: usize,
 }
 
 // What an accepted record is told: the word.
 #[derive(Clone, Copy)]
 pub struct Report {
     pub word: Word,
-}
-
-// The answer to a record that is fed.
-#[derive(Clone, Copy)]
-pub enum Answer {
-    Accepted(Report),
-    Refused(Refusal),
-}
-
-// The answer to asking and to closing: how the log ends here.
-#[derive(Clone, Copy)]
-pub enum End {
-    Closed(Verdict),
-    Refused(Refusal),
-}
-
-// How long a rule can stay open, in minutes; it may have no such limit.
-#[derive(Clone, Copy)]
-pub enum Wait {
-    Forever,
-    Minutes(usize),
 }
 
 // The rule's bytes and its records, the signals' bytes and their count, zeros behind each, and the phase.
@@ -97,24 +69,24 @@ pub struct Watcher {
     pub phase: Phase,
 }
 
-// What start hands back: what it found, and the state.
+// What start hands back: what it found, and the state; they stand side by side, since a refusal hands a state back too.
 #[derive(Clone, Copy)]
 pub struct Started {
-    pub found: Found,
+    pub found: Result<(), Refusal>,
     pub next: Watcher,
 }
 
-// What feeding a record hands back: the answer, and the next state.
+// What feeding a record hands back: its report or a refusal, and the next state.
 #[derive(Clone, Copy)]
 pub struct Fed {
-    pub answer: Answer,
+    pub answer: Result<Report, Refusal>,
     pub next: Watcher,
 }
 
-// What closing hands back: the answer, and the next state.
+// What closing hands back: how the log ended or a refusal, and the next state.
 #[derive(Clone, Copy)]
 pub struct Ended {
-    pub answer: End,
+    pub answer: Result<Verdict, Refusal>,
     pub next: Watcher,
 }
 
@@ -130,37 +102,21 @@ pub struct Limits {
     pub words: usize,
 }
 
-impl Found {
-    // Whether something is refused.
-    #[tactic(auto, unfolding(crate::specs::State::is_refused))]
-    pub fn is_refused(self) -> bool
-        ensures { IsRefusedClause self result }
-    {
-        match self {
-            Found::Fine => false,
-            Found::Refused(_) => true,
-        }
-    }
-}
+impl From<bool> for Verdict {
+    ghost from_gives = { λ value verdict. verdict ≡ verdict_for value };
 
-impl Place {
-    // Whether something was found.
-    #[tactic(auto, unfolding(crate::specs::Places::is_found))]
-    pub(crate) fn is_found(self) -> bool
-        ensures { result ≡ is_found self }
-    {
-        match self {
-            Place::Nowhere => false,
-            Place::At {
-                record: _,
-                second: _,
-            } => true,
+    #[tactic(auto, unfolding(crate::specs::Numbers::verdict_for))]
+    fn from(value: bool) -> Verdict {
+        if value {
+            Verdict::Kept
+        } else {
+            Verdict::Broken
         }
     }
 }
 
 impl Verdict {
-    // The word that says the same.
+    // The word that says the same. It stays a method: Word::from would be a second name for it.
     #[tactic(auto, unfolding(crate::specs::Numbers::decided, crate::specs::Numbers::verdict_value))]
     pub fn word(self) -> Word
         ensures { WordClause self result }
@@ -174,16 +130,13 @@ impl Verdict {
 
 impl Phase {
     // The last record; zeros where there is none.
+    #[tactic(auto, unfolding(crate::specs::Numbers::last_in, crate::specs::Numbers::stage_of))]
     pub fn last(self) -> Moment
         ensures { LastClause self result }
     {
         match self {
-            Phase::Fresh => Moment {
-                time: 0,
-                signals: 0,
-            },
             Phase::Running { time, signals } => Moment { time, signals },
-            Phase::Closed(_) => Moment {
+            Phase::Fresh | Phase::Closed(_) => Moment {
                 time: 0,
                 signals: 0,
             },

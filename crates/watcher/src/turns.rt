@@ -19,24 +19,21 @@ use rewriting::rule::parameters_in;
 use rewriting::step::{Moment, Plan};
 use rewriting::walk::forms_of;
 use rewriting::{ending, rewrite};
+use std::array;
 
 // A list with zeros behind it.
 pub(crate) fn padded(list: &[u8]) -> [u8; Watcher::LIST_BYTES]
     ensures { result ≡ padded_of list.now }
 {
-    let mut bytes = [0u8; Watcher::LIST_BYTES];
-    for i in 0..Watcher::LIST_BYTES {
-        bytes[i] = byte(list, i);
-    }
-    bytes
+    array::from_fn(|i| byte(list, i))
 }
 
 // The word of a remainder.
+#[tactic(auto, unfolding(crate::specs::Numbers::saying, meaning::specs::Words::word, meaning::specs::Words::word_for))]
 fn word_of(row: [u64; 64]) -> Word
     ensures { OfForm (λ m f. saying (word m f)) row result }
 {
-    let truth = which_constant(row);
-    match truth {
+    match which_constant(row) {
         Truth::True => Word::Kept,
         Truth::False => Word::Broken,
         Truth::Open => Word::Pending,
@@ -47,8 +44,9 @@ fn word_of(row: [u64; 64]) -> Word
 pub(crate) fn report_on(area: &[u64]) -> Report
     ensures { ReportsOn area.now result }
 {
-    let word = word_of(load(area, Watcher::PARAMETERS));
-    Report { word }
+    Report {
+        word: word_of(load(area, Watcher::PARAMETERS)),
+    }
 }
 
 // The plan of a rule with so many records.
@@ -74,6 +72,7 @@ fn table_for(rule: &[u8], plan: Plan) -> [u64; Watcher::TABLE_WORDS]
 }
 
 // The area at start.
+#[tactic(auto, unfolding(crate::specs::inside::Turns::begun_of))]
 pub(crate) fn begin_area(rule: &[u8], area: &mut [u64])
     requires { Sound rule.now (plan_in rule.now) × (records_of rule.now ≤ most_records)
         × (length area.old ≡ area_words) }
@@ -84,36 +83,35 @@ pub(crate) fn begin_area(rule: &[u8], area: &mut [u64])
     ending::begin(rule, plan, &table, area);
 }
 
-// The area after a record: the first leaves the remainder, a later one is fed.
+// The area after a record: the first leaves the remainder, a later one is fed. That state and area pass refusals 7 and
+// 12 stays a clause: the area is lent, and a struct of both would be made only to be taken apart.
 pub(crate) fn rewrite_area(watcher: Watcher, new: Moment, area: &mut [u64])
     requires { Passed watcher area.old }
     ensures { (area.new ≡ rewritten_of watcher new area.old)
         × (parameters_of watcher ≤ most_parameters) }
 {
-    let rule = watcher.rule;
-    let plan = plan_for(&rule, watcher.records);
-    let table = table_for(&rule, plan);
-    let phase = watcher.phase;
-    match phase {
-        Phase::Fresh => rewrite::first(&rule, plan, new, &table, area),
+    let plan = plan_for(&watcher.rule, watcher.records);
+    let table = table_for(&watcher.rule, plan);
+    match watcher.phase {
         Phase::Running { time, signals } => {
             let last = Moment { time, signals };
-            rewrite::feed(&rule, plan, last, new, &table, area)
+            rewrite::feed(&watcher.rule, plan, last, new, &table, area)
         }
-        Phase::Closed(_) => rewrite::first(&rule, plan, new, &table, area),
+        Phase::Fresh | Phase::Closed(_) => {
+            rewrite::first(&watcher.rule, plan, new, &table, area)
+        }
     }
 }
 
 // The value were this the last record.
+#[tactic(auto, unfolding(crate::specs::Calls::value_now, crate::specs::Calls::known_now, crate::specs::State::parameters_of, crate::specs::State::rule_of))]
 pub(crate) fn value_now(watcher: Watcher, area: &[u64]) -> bool
     requires { Passed watcher area.now }
     ensures { result ≡ value_now watcher area.now }
 {
-    let rule = watcher.rule;
-    let phase = watcher.phase;
-    let plan = plan_for(&rule, watcher.records);
-    let table = table_for(&rule, plan);
-    ending::value_if_last(&rule, plan, phase.last(), &table, area)
+    let plan = plan_for(&watcher.rule, watcher.records);
+    let table = table_for(&watcher.rule, plan);
+    ending::value_if_last(&watcher.rule, plan, watcher.phase.last(), &table, area)
 }
 
 // The area after closing with a value.
@@ -121,7 +119,5 @@ pub(crate) fn close_area(watcher: Watcher, b: bool, area: &mut [u64])
     requires { Passed watcher area.old }
     ensures { area.new ≡ closed_with (plan_of watcher) b area.old }
 {
-    let rule = watcher.rule;
-    let plan = plan_for(&rule, watcher.records);
-    ending::close(plan, b, area);
+    ending::close(plan_for(&watcher.rule, watcher.records), b, area);
 }

@@ -1,108 +1,79 @@
 // Cases by chance, through the watcher and the second evaluator.
-use crate::answers::print::difference;
 use crate::answers::watch::{horizon_said, run};
 use crate::cases::agree::agree;
-use crate::cases::tests::compare_tests;
-use crate::judge::bytes::first;
+use crate::cases::case::Case;
 use crate::judge::letters::wanted;
-use crate::judge::lists::lists_refusal;
-use crate::judge::reach::{NEVER, horizon};
+use crate::judge::lists::Lists;
 use crate::random::lists::{random_rule, random_signals};
 use crate::random::logs::random_log;
-use crate::tally::{CASES, DIFFERENCES, count, count_horizon, count_letters};
+use crate::tally::Tally;
+use std::fmt::Display;
 use std::io;
 
-// The second evaluator's horizon of the lists; never where they are refused.
-fn horizon_wanted(rule: &[u8], signals: &[u8]) -> u64 {
-    if lists_refusal(rule, signals) == 0 {
-        horizon(rule)
-    } else {
-        NEVER
+// A comparison: where it tells differences, the watcher's area, and what it counted.
+#[derive(Drop)]
+pub(crate) struct Comparison<'a, P> {
+    pub(crate) rt: &'a P,
+    pub(crate) area: &'a mut [u64],
+    pub(crate) tally: Tally,
+}
+
+// The second evaluator's horizon of the lists; none where they are refused.
+fn horizon_wanted(case: &Case<'_>) -> Option<usize> {
+    let lists = Lists::read(case.rule, case.signals).ok()?;
+    Some(lists.horizon()? as usize)
+}
+
+impl<P: Print> Comparison<'_, P> {
+    // Counts a difference, and writes it: the case whole, what was said and what was wanted.
+    pub(crate) fn differs<S: Display, W: Display>(
+        &mut self,
+        case: &Case<'_>,
+        said: &S,
+        wanted: &W,
+    ) -> io::Result<()> {
+        self.tally.count_difference();
+        println!(self.rt; "DIFFERENCE {case} said {said} wanted {wanted}")
     }
-}
 
-// Compares the horizon that the watcher says with the second evaluator's.
-fn compare_horizon(
-    rt: &impl Print,
-    rule: &[u8],
-    signals: &[u8],
-    area: &mut [u64],
-    tally: &mut [u64],
-) -> io::Result<()> {
-    let said = horizon_said(rule, signals, area, NEVER);
-    let mine = horizon_wanted(rule, signals);
-    count_horizon(tally, said == NEVER);
-    if said == mine {
-        return Ok(());
+    // Compares the horizon that the watcher says with the second evaluator's.
+    fn compare_horizon(&mut self, case: &Case<'_>) -> io::Result<()> {
+        let said = horizon_said(case, self.area);
+        self.tally.count_horizon(said.is_some());
+        if said == horizon_wanted(case) {
+            return Ok(());
+        }
+        self.differs(&Case { log: &[], ..*case }, &"another horizon", &"")
     }
-    count(tally, DIFFERENCES);
-    difference(rt, rule, signals, b"", b"another horizon", b"")
-}
 
-// Counts the letters that the watcher said, and writes the case if they do not agree with the wanted ones.
-fn settle(
-    rt: &impl Print,
-    rule: &[u8],
-    signals: &[u8],
-    log: &[u8],
-    said: &[u8],
-    mine: &[u8],
-    tally: &mut [u64],
-) -> io::Result<()> {
-    count_letters(tally, said);
-    if agree(said, mine) {
-        return Ok(());
+    // Counts the letters that the watcher said, and compares them with the second evaluator's.
+    fn compare_letters(&mut self, case: &Case<'_>) -> io::Result<()> {
+        let said = run(case, self.area);
+        let mine = wanted(case.rule, case.signals, case.log);
+        self.tally.count_letters(said.as_str());
+        if agree(said.as_str(), mine.as_str()) {
+            return Ok(());
+        }
+        self.differs(case, &said, &mine)
     }
-    count(tally, DIFFERENCES);
-    difference(rt, rule, signals, log, said, mine)
-}
 
-// Counts and compares one case.
-fn compare(
-    rt: &impl Print,
-    rule: &[u8],
-    signals: &[u8],
-    log: &[u8],
-    area: &mut [u64],
-    tally: &mut [u64],
-) -> io::Result<()> {
-    let mut said = [0u8; 32];
-    let mut mine = [0u8; 32];
-    count(tally, CASES);
-    run(rule, signals, log, &mut said, area);
-    wanted(rule, signals, log, &mut mine);
-    settle(rt, rule, signals, log, &said, &mine, tally)?;
-    compare_horizon(rt, rule, signals, area, tally)?;
-    compare_tests(rt, rule, signals, log, tally)
-}
-
-// Makes one case by chance and compares it.
-fn random_case(rt: &impl Print, case: u64, area: &mut [u64], tally: &mut [u64]) -> io::Result<()> {
-    let mut rule = [0u8; 136];
-    let mut signals = [0u8; 136];
-    let mut log = [0u8; 192];
-    let rule_count = random_rule(case, &mut rule);
-    let signal_count = random_signals(case, &mut signals);
-    let log_count = random_log(case, &mut log);
-    compare(
-        rt,
-        first(&rule, rule_count),
-        first(&signals, signal_count),
-        first(&log, log_count),
-        area,
-        tally,
-    )
-}
-
-// Compares so many cases.
-pub(crate) fn random_cases(
-    rt: &impl Print,
-    cases: u64,
-    area: &mut [u64],
-    tally: &mut [u64],
-) -> io::Result<()> {
-    for case in 0..cases {
-        random_case(rt, case, area, tally)?;
+    // Counts and compares one case.
+    fn compare(&mut self, case: &Case<'_>) -> io::Result<()> {
+        self.tally.count_case();
+        self.compare_letters(case)?;
+        self.compare_horizon(case)?;
+        self.compare_tests(case)
     }
-    Ok(())
+
+    // Makes so many cases by chance, and compares each.
+    pub(crate) fn random_cases(&mut self, cases: u64) -> io::Result<()> {
+        for case in 0..cases {
+            self.compare(&Case {
+                rule: random_rule(case).as_slice(),
+                signals: random_signals(case).as_slice(),
+                log: random_log(case).as_slice(),
+            })?;
+        }
+        Ok(())
+    }
 }

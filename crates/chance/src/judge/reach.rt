@@ -1,57 +1,42 @@
-// The horizon in minutes, from document 01's words.
-use crate::judge::bytes::pieces;
-use crate::judge::lists::field;
+// The horizon in minutes, from document 01's words; none where the rule has no limit.
+use crate::judge::lists::{LIST_RECORDS, Lists};
+use crate::judge::rule::{Formula, Interval};
 
-// No horizon: more minutes than any log has.
-pub(crate) const NEVER: u64 = 8589934592;
-
-// What stands at a place; 0 past the end.
-fn entry(waits: &[u64], place: u64) -> u64 {
-    if place < waits.len() as u64 {
-        return waits[place as usize];
-    }
-    0
+// The larger of two waits.
+fn larger(one: Option<u32>, other: Option<u32>) -> Option<u32> {
+    Some(one?.max(other?))
 }
 
-// Writes at a place, if it is inside.
-fn put_entry(waits: &mut [u64], place: usize, new: u64) {
-    if place < waits.len() {
-        waits[place] = new;
-    }
+// A wait, and the interval's high end more.
+fn more(interval: Interval, wait: Option<u32>) -> Option<u32> {
+    Some(wait?.saturating_add(u32::from(interval.high?)))
 }
 
-// High more; no horizon if there is no upper end.
-fn more(high: u64, wait: u64) -> u64 {
-    if high == 255 {
-        return NEVER;
-    }
-    std::num::wrapping_add_u64(high, wait)
-}
-
-// The horizon of rule record k, from those of the records before it.
-fn record_wait(rule: &[u8], waits: &[u64], k: usize) -> u64 {
-    let kind = field(rule, k, 0);
-    let high = field(rule, k, 5);
-    let left = entry(waits, field(rule, k, 1));
-    let right = entry(waits, field(rule, k, 2));
-    let larger = if left < right { right } else { left };
-    match kind {
-        1 | 2 | 3 => 0,
-        6 => more(high, left),
-        7 => more(high, larger),
-        8 => left,
-        _ => larger,
+// How long a rule record can stay open, by the waits of the records before it.
+fn wait_of(formula: Formula, waits: &[Option<u32>]) -> Option<u32> {
+    let wait = |k: u8| waits.get(usize::from(k)).copied().flatten();
+    match formula {
+        Formula::True | Formula::False | Formula::Signal(_) => Some(0),
+        Formula::Next(interval, left) => more(interval, wait(left)),
+        Formula::Until(interval, left, right) => more(interval, larger(wait(left), wait(right))),
+        Formula::Previous(_, left) => wait(left),
+        Formula::And(left, right) | Formula::Xor(left, right) | Formula::Since(_, left, right) => {
+            larger(wait(left), wait(right))
+        }
     }
 }
 
-// The horizon of the rule, or none.
-pub(crate) fn horizon(rule: &[u8]) -> u64 {
-    let mut waits = [0u64; 16];
-    let mut last = 0;
-    let records = pieces(rule, 8, 16);
-    for k in 0..records {
-        last = record_wait(rule, &waits, k);
-        put_entry(&mut waits, k, last);
+impl Lists<'_> {
+    // The horizon of the rule. This stays a loop over k: each wait is found from those before it in the same array.
+    pub(crate) fn horizon(&self) -> Option<u32> {
+        let mut waits = [None; LIST_RECORDS];
+        let mut last = None;
+        for k in 0..LIST_RECORDS {
+            if let Some(formula) = self.formula(k) {
+                last = wait_of(formula, &waits);
+                waits[k] = last;
+            }
+        }
+        last
     }
-    if last < NEVER { last } else { NEVER }
 }

@@ -1,128 +1,95 @@
 // What a rule means: the value at each record, by looking for the records that the words name.
-ghost use Rattle.std.specs.Prelude.{◌<◌};
+use crate::judge::lists::{LIST_RECORDS, Lists};
+use crate::judge::log::{LOG_RECORDS, Record};
+use crate::judge::rule::{Formula, Interval};
 
-use crate::judge::bytes::{byte, pieces, put};
-use crate::judge::lists::field;
-use crate::judge::reading::{holds, time};
-
-// Whether rule record k holds at log record i, from the table of what was found: 12 places for each rule record.
-fn held(table: &[u8], k: u64, i: usize) -> bool {
-    if 16 <= k {
-        return false;
-    }
-    if 12 <= i {
-        return false;
-    }
-    byte(table, 12 * k as usize + i) == 1
+// What is known of a log: for each rule record looked at so far, at which log records it holds.
+#[derive(Clone, Copy)]
+struct Known<'a> {
+    lists: Lists<'a>,
+    log: &'a [Record],
+    table: [[bool; LOG_RECORDS]; LIST_RECORDS],
 }
 
-// The minutes between two log records, whichever comes first.
-pub(crate) fn minutes(log: &[u8], i: usize, j: usize) -> u64 {
-    let one = time(log, i);
-    let other = time(log, j);
-    if other < one {
-        return one - other;
+impl Known<'_> {
+    // Whether rule record k holds at log record i.
+    fn held(&self, k: u8, i: usize) -> bool {
+        let row = self.table.get(usize::from(k));
+        row.and_then(|row| row.get(i)).is_some_and(|held| *held)
     }
-    other - one
-}
 
-// Whether so many minutes are in the interval of rule record k.
-fn inside(rule: &[u8], k: usize, gap: u64) -> bool {
-    if gap < field(rule, k, 4) {
-        return false;
+    // Whether rule record k holds at every log record from one up to but not including another.
+    fn every(&self, k: u8, from: usize, to: usize) -> bool {
+        (from..to).all(|i| self.held(k, i))
     }
-    let high = field(rule, k, 5);
-    if high == 255 {
-        return true;
-    }
-    gap <= high
-}
 
-// Whether rule record k holds at every log record from one up to but not including another.
-fn every(table: &[u8], k: u64, from: usize, to: usize) -> bool {
-    for i in from..to {
-        if !held(table, k, i) {
+    // Whether some log record shows it, among those whose minutes from log record i are in the interval.
+    fn shown<F: Fn(usize) -> bool>(&self, interval: Interval, i: usize, shows: F) -> bool
+        requires { F.IsAlwaysCallable shows }
+    {
+        let Some(now) = self.log.get(i) else {
             return false;
+        };
+        self.log.iter().enumerate().any(|(j, then)| interval.has(now.time.abs_diff(then.time))
+            && shows(j))
+    }
+
+    // Whether a rule record holds at log record i.
+    fn holds(&self, formula: Formula, i: usize) -> bool {
+        let after = i.saturating_add(1);
+        match formula {
+            Formula::True => true,
+            Formula::False => false,
+            Formula::Signal(n) => self.signal_holds(n, i),
+            Formula::And(left, right) => self.held(left, i) && self.held(right, i),
+            Formula::Xor(left, right) => self.held(left, i) != self.held(right, i),
+            Formula::Next(within, left) => {
+                self.shown(within, i, |j| j == after && self.held(left, j))
+            }
+            Formula::Until(within, left, right) => self.shown(within, i, |j| {
+                i <= j && self.held(right, j) && self.every(left, i, j)
+            }),
+            Formula::Previous(within, left) => self.shown(within, i, |j| {
+                j.saturating_add(1) == i && self.held(left, j)
+            }),
+            Formula::Since(within, left, right) => self.shown(within, i, |j| {
+                j <= i && self.held(right, j) && self.every(left, j.saturating_add(1), after)
+            }),
         }
     }
-    true
-}
 
-// Whether log record j shows that rule record k, which looks ahead or back, holds at log record i.
-fn shown_by(rule: &[u8], log: &[u8], table: &[u8], k: usize, i: usize, j: usize) -> bool
-    requires { (i < 12) × (j < 12) }
-{
-    if !inside(rule, k, minutes(log, i, j)) {
-        return false;
+    // Whether signal n holds at log record i.
+    fn signal_holds(&self, n: u8, i: usize) -> bool {
+        let record = self.log.get(i);
+        record.and_then(|record| self.lists.test(usize::from(n), record)) == Some(true)
     }
-    let kind = field(rule, k, 0);
-    let left = field(rule, k, 1);
-    let right = field(rule, k, 2);
-    match kind {
-        6 => i + 1 == j && held(table, left, j),
-        7 => i <= j && held(table, right, j) && every(table, left, i, j),
-        8 => j + 1 == i && held(table, left, j),
-        _ => j <= i && held(table, right, j) && every(table, left, j + 1, i + 1),
-    }
-}
 
-// Whether some log record shows it.
-fn shown(rule: &[u8], log: &[u8], table: &[u8], k: usize, i: usize) -> bool
-    requires { i < 12 }
-{
-    let records = pieces(log, 16, 12);
-    for j in 0..records {
-        if shown_by(rule, log, table, k, i, j) {
-            return true;
+    // At which log records a rule record holds.
+    fn row(&self, formula: Formula) -> [bool; LOG_RECORDS] {
+        let mut row = [false; LOG_RECORDS];
+        for (i, held) in row.iter_mut().enumerate().take(self.log.len()) {
+            *held = self.holds(formula, i);
         }
-    }
-    false
-}
-
-// Whether rule record k holds at log record i.
-fn record_holds(rule: &[u8], signals: &[u8], log: &[u8], table: &[u8], k: usize, i: usize) -> bool
-    requires { i < 12 }
-{
-    let kind = field(rule, k, 0);
-    let left = field(rule, k, 1);
-    let right = field(rule, k, 2);
-    match kind {
-        1 => true,
-        2 => false,
-        3 => holds(signals, left, log, i),
-        4 => held(table, left, i) && held(table, right, i),
-        5 => held(table, left, i) != held(table, right, i),
-        _ => shown(rule, log, table, k, i),
+        row
     }
 }
 
-// What the table has at a place.
-fn found(rule: &[u8], signals: &[u8], log: &[u8], table: &[u8], place: usize) -> u8 {
-    let k = place / 12;
-    let i = place % 12;
-    if pieces(rule, 8, 16) <= k {
-        return 0;
+impl Lists<'_> {
+    // The value of a log: the rule's value at the first record; none where there is no record. This stays a loop over
+    // k: each row is found from those before it in the same table.
+    pub(crate) fn value(&self, log: &[Record]) -> Option<bool> {
+        let mut known = Known {
+            lists: *self,
+            log,
+            table: [[false; LOG_RECORDS]; LIST_RECORDS],
+        };
+        let mut last = [false; LOG_RECORDS];
+        for k in 0..LIST_RECORDS {
+            if let Some(formula) = self.formula(k) {
+                last = known.row(formula);
+                known.table[k] = last;
+            }
+        }
+        if log.is_empty() { None } else { Some(last[0]) }
     }
-    if pieces(log, 16, 12) <= i {
-        return 0;
-    }
-    if record_holds(rule, signals, log, table, k, i) {
-        1
-    } else {
-        0
-    }
-}
-
-// The value of a log: the rule's value at the first record.
-pub(crate) fn value(rule: &[u8], signals: &[u8], log: &[u8]) -> bool {
-    let mut table = [0u8; 192];
-    for place in 0..192usize {
-        let new = found(rule, signals, log, &table, place);
-        put(&mut table, place, new);
-    }
-    let records = pieces(rule, 8, 16);
-    if records == 0 {
-        return false;
-    }
-    held(&table, (records - 1) as u64, 0)
 }

@@ -1,5 +1,6 @@
 -- What the functions inside the crate say. Nobody outside has to believe it.
 use Rattle.std.specs.Prelude.{◌≡◌, Bool, true, false, ◌&&◌, cond, List, [], ◌∷◌, ℕ, ◌+◌, ◌-◌, ◌*◌, ◌^◌, ◌≤◌, ◌<◌, eqb}
+use Rattle.std.specs.Prelude.{Option, MatchOption}
 use Rattle.std.specs.Int.Bits.{bit_or}
 use Rattle.ground.specs.Fold.{◌⊕◌, parity}
 use Rattle.ground.specs.Bits.{bit, bit_at, Words}
@@ -7,22 +8,34 @@ use Rattle.forms.specs.Form.{Form, constant, xor, put_in, truth, each}
 use Rattle.forms.specs.Words.{most, pack, of_terms}
 use Rattle.forms.specs.Area.{row_at, form_in, Holds}
 
--- r is the first term of the row from `from` on and before `to`, or `to` where there is none
-pub record Next (row : List ℕ) (from to r : ℕ) : Type 0 where
-  pub high : r ≤ to
-  pub low : from ≤ to → from ≤ r
-  pub none : (k : ℕ) → from ≤ k → k < r → bit_at row k ≡ false
-  pub here : r < to → bit_at row r ≡ true
+-- the row has no term from `from` on and before `to`
+abbrev pub Free : List ℕ → ℕ → ℕ → Type 0
+Free row from to = (k : ℕ) → from ≤ k → k < to → bit_at row k ≡ false
+
+-- k is the row's first term from `from` on, and before `to`
+pub record First (row : List ℕ) (from to k : ℕ) : Type 0 where
+  pub low : from ≤ k
+  pub high : k < to
+  pub here : bit_at row k ≡ true
+  pub none : Free row from k
+
+-- r is the first term of the row from `from` on and before `to`, if there is one
+abbrev pub Next : List ℕ → ℕ → ℕ → Option ℕ → Type 0
+Next row from to r = MatchOption r (Free row from to) (First row from to)
+
+-- of the row's terms from `from` on, r is the first, if there is one, and those from `on` on are left, of the same row
+abbrev pub Gives : List ℕ → ℕ → Option ℕ → List ℕ → ℕ → Type 0
+Gives row from r left on =
+    (left ≡ row) × MatchOption r (Free row from 4096) (λ k. First row from 4096 k × (on ≡ k + 1))
 
 -- term k is the row's only one, but perhaps for the empty one
 abbrev pub Only : List ℕ → ℕ → Type 0
 Only row k = (l : ℕ) → 1 ≤ l → l < 4096 → bit_at row l ≡ eqb k l
 
--- the row's form is parameter r, or parameter r xor true; r is 12 where it is neither of any parameter
-pub record Lone (row : List ℕ) (r : ℕ) : Type 0 where
-  pub high : r ≤ 12
-  pub here : r < 12 → Only row (2 ^ r)
-  pub all : (p : ℕ) → p < 12 → Only row (2 ^ p) → r ≡ p
+-- the row's form is parameter p, or parameter p xor true, where r is p, and neither of any parameter where r is none
+abbrev pub Lone : List ℕ → Option ℕ → Type 0
+Lone row r =
+    MatchOption r ((p : ℕ) → p < 12 → Only row (2 ^ p) → ⊥) (λ p. (p < 12) × Only row (2 ^ p))
 
 -- r is the row old with term i joined with each term of b
 pub record Joined (old b : List ℕ) (i : ℕ) (r : List ℕ) : Type 0 where

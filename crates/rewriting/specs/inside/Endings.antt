@@ -1,5 +1,5 @@
 -- What the functions that end a log say. Nobody outside has to believe it.
-use Rattle.std.specs.Prelude.{◌≡◌, Bool, List, ◌++◌, ℕ, length}
+use Rattle.std.specs.Prelude.{◌≡◌, Bool, List, None, ◌++◌, ℕ, length}
 use Rattle.ground.specs.Fold.{tab}
 use Rattle.ground.specs.Bits.{bit}
 use Rattle.forms.specs.Form.{Form, constant}
@@ -7,7 +7,6 @@ use Rattle.forms.specs.Area.{form_in, Holds}
 use Rattle.meaning.specs.Rewriting.{none, derived_rows}
 use Rattle.rewriting.specs.declared.row.Row.TheVariants.{Derived}
 use Rattle.rewriting.specs.declared.step.Step.{Step}
-use Rattle.rewriting.specs.declared.step.Neighbour.TheVariants.{None}
 use Rattle.rewriting.specs.declared.step.Plan.{Plan}
 use Rattle.rewriting.specs.declared.step.Moment.{Moment}
 use Rattle.rewriting.specs.Decode.{node_for}

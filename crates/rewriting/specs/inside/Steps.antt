@@ -1,11 +1,11 @@
 -- What the functions inside the crate say. Nobody outside has to believe it.
-use Rattle.std.specs.Prelude.{◌≡◌, Bool, List, ℕ, ◌≤◌, ◌<◌}
+use Rattle.std.specs.Prelude.{◌≡◌, Bool, false, List, Option, None, Some, ℕ, ◌<◌}
 use Rattle.forms.specs.Form.{Form, or}
 use Rattle.forms.specs.Words.{pack}
 use Rattle.forms.specs.Area.{form_in, Holds}
 use Rattle.meaning.specs.Interval as interval
 use Rattle.meaning.specs.Rule.{Node, Entry}
-use Rattle.meaning.specs.Rewriting.{put, only_if, form_of, row_to, next_row, until_later, derived_row}
+use Rattle.meaning.specs.Rewriting.{put, only_if, form_of, next_row, until_later, derived_row}
 use Rattle.meaning.specs.Rewriting.{previous_row, since_earlier, past_row}
 use Rattle.meaning.specs.Rewriting as rewriting
 use Rattle.rewriting.specs.Decode.{interval_for, node_for}
@@ -13,54 +13,64 @@ use Rattle.rewriting.specs.declared.row.Row.{Row}
 use Rattle.rewriting.specs.declared.row.Row.TheVariants.{Derived, Past}
 use Rattle.rewriting.specs.declared.step.Record.{Record}
 use Rattle.rewriting.specs.declared.step.Step.{Step}
-use Rattle.rewriting.specs.declared.step.Neighbour.{Neighbour}
-use Rattle.rewriting.specs.declared.step.Neighbour.TheVariants.{None, At}
-use Rattle.rewriting.specs.declared.interval.Shift.{Shift}
-use Rattle.rewriting.specs.declared.interval.Shift.TheVariants.{Gone, To}
 
--- the moved shift that an answer is
-unfoldable pub moved_of : Shift → interval.Moved
-moved_of Gone = interval.gone
-moved_of (To n) = interval.to n
-
--- a shift that is not gone is a byte
-unfoldable pub Near : Shift → Type 0
-Near Gone = Unit {0}
-Near (To n) = n < 256
-
--- the answer is row j of the forms that the area holds, if the test passes
-abbrev pub OnlyRow : Bool → List ℕ → ℕ → ℕ → List ℕ → Type 0
-OnlyRow test ws count j r =
-    (m : ℕ) (rows : List (Form m)) → Holds m ws 0 count rows → r ≡ pack m (only_if m test (form_in m rows j))
-
--- the answer is the row of the moved shift
-abbrev pub OfMoved : List ℕ → ℕ → ℕ → ℕ → interval.Moved → List ℕ → Type 0
-OfMoved ws base count first s r =
-    (m : ℕ) (rows : List (Form m)) → Holds m ws base count rows → r ≡ pack m (row_to m rows first s)
-
--- the answer is the row with the area's rows put in, if the test passes
-abbrev pub OnlyWithRows : Bool → List ℕ → List ℕ → ℕ → ℕ → List ℕ → Type 0
-OnlyWithRows test row ws base count r =
-    (m : ℕ) (f : Form m) (rows : List (Form m)) → m ≤ 12 → row ≡ pack m f → Holds m ws base count rows
-    → r ≡ pack m (only_if m test (put m f rows))
-
--- the neighbour, the interval and the record of the log that a step has
-unfoldable pub neighbour_of : Neighbour → rewriting.Neighbour
-neighbour_of None = rewriting.none
-neighbour_of (At time) = rewriting.at time
-
-unfoldable pub interval_in : Step → interval.Interval
+-- the interval and the record of the log that a step has
+abbrev pub interval_in : Step → interval.Interval
 interval_in step = interval_for step.record.interval
 
 unfoldable pub entry_in : Step → Entry
 entry_in step = record { time = step.here; signals = step.signals }
 
--- what a step's numbers keep to
-pub record Fair (step : Step) : Type 0 where
-  pub few : step.m ≤ 12
-  pub within : step.first ≤ 12
-  pub byte : step.shift < 256
-  pub some : 1 ≤ step.record.kind
+-- whether the record beside is there, and in the interval from here
+abbrev pub in_interval : interval.Interval → (here : ℕ) → Option ℕ → Bool
+in_interval v here None = false
+in_interval v here (Some other) = interval.inside v here other
+
+abbrev pub sees_neighbour : Step → Bool
+sees_neighbour step = in_interval (interval_in step) step.here step.neighbour
+
+-- whether the record here is in its own interval
+abbrev pub sees_itself : Step → Bool
+sees_itself step = interval.inside (interval.shifted (interval_in step) step.shift) step.here step.here
+
+-- what the gap to the record beside makes of the shift: it is gone where there is none
+abbrev pub moved_by : interval.Interval → (shift here : ℕ) → Option ℕ → interval.Moved
+moved_by v shift here None = interval.gone
+moved_by v shift here (Some other) = interval.moved v shift here other
+
+abbrev pub moved_in : Step → interval.Moved
+moved_in step = moved_by (interval_in step) step.shift step.here step.neighbour
+
+-- the step at another shift
+abbrev pub at_shift : Step → (n : ℕ) → n < 256 → Step
+at_shift step n byte =
+    record {
+      «record» = step.record;
+      first = step.first;
+      shift = n;
+      m = step.m;
+      here = step.here;
+      signals = step.signals;
+      neighbour = step.neighbour;
+      few = step.few;
+      within = step.within;
+      byte = byte;
+    }
+
+-- the moved shift that an answer is
+abbrev pub moved_of : Option ℕ → interval.Moved
+moved_of None = interval.gone
+moved_of (Some n) = interval.to n
+
+-- a shift that is not gone is a byte
+abbrev pub Near : Option ℕ → Type 0
+Near None = Unit {0}
+Near (Some n) = n < 256
+
+-- the neighbour that a step has
+abbrev pub neighbour_of : Option ℕ → rewriting.Neighbour
+neighbour_of None = rewriting.none
+neighbour_of (Some time) = rewriting.at time
 
 -- the answer is the record's form, from the forms of the k records before it
 abbrev pub OfRecord : Record → ℕ → (m : ℕ) → List ℕ → ℕ → List ℕ → Type 0
@@ -103,7 +113,7 @@ OfMade row step fs k ws scratch held r =
 unfoldable pub now_or : (step : Step) (right second : Form step.m) (rows : List (Form step.m)) → Form step.m
 now_or step right second rows =
     or step.m
-    (only_if step.m (interval.inside (interval.shifted (interval_in step) step.shift) step.here step.here)
+    (only_if step.m (sees_itself step)
     (put step.m right rows))
     second
 

@@ -1,5 +1,6 @@
 -- What the loops over a rule's records say.
-use Rattle.std.specs.Prelude.{◌≡◌, List, ℕ, ◌+◌, ◌≤◌}
+use Rattle.std.specs.Prelude.{◌≡◌, List, Option, ℕ, ◌+◌, ◌≤◌}
+use Rattle.std.proofs.Common.{lit<}
 use Rattle.forms.specs.Form.{Form}
 use Rattle.forms.specs.Words.{pack}
 use Rattle.forms.specs.Area.{put_rows, Holds}
@@ -12,13 +13,12 @@ use Rattle.rewriting.specs.inside.Steps.{neighbour_of, own_at, other_at, Kept, m
 use Rattle.rewriting.specs.declared.row.Row.{Row}
 use Rattle.rewriting.specs.declared.row.Row.TheVariants.{Derived, Past}
 use Rattle.rewriting.specs.declared.step.Step.{Step}
-use Rattle.rewriting.specs.declared.step.Neighbour.{Neighbour}
 use Rattle.rewriting.specs.declared.step.Plan.{Plan}
 use Rattle.rewriting.specs.declared.step.Moment.{Moment}
 
 -- record k of the rule, whose parameters begin at first, at a record of the log, with shift 0
-abbrev pub step_in : List ℕ → (k first m : ℕ) → Moment → Neighbour → Step
-step_in list k first m here near =
+abbrev pub step_in : List ℕ → (k first m : ℕ) → Moment → Option ℕ → m ≤ 12 → first ≤ 12 → Step
+step_in list k first m here near few within =
     record {
       «record» = record_in list k;
       first = first;
@@ -27,6 +27,9 @@ step_in list k first m here near =
       here = here.time;
       signals = here.signals;
       neighbour = near;
+      few = few;
+      within = within;
+      byte = lit< tt;
     }
 
 -- the record's own places and the others lie apart, and no sum of them wraps
@@ -51,13 +54,13 @@ unfoldable pub table_of : Row → (m : ℕ) → List Node → (other : List (For
 table_of Derived m rule other e near k = derived_rows m rule other e near k
 table_of Past m rule other e near k = past_rows m rule other e near k
 
-abbrev pub rows_for : Row → (list : List ℕ) (plan : Plan) → Moment → Neighbour → (other : List (Form plan.m))
+abbrev pub rows_for : Row → (list : List ℕ) (plan : Plan) → Moment → Option ℕ → (other : List (Form plan.m))
     → List (Form plan.m)
 rows_for row list plan here near other =
     table_of row plan.m (rule_for list plan) other (entry_for here) (neighbour_of near) plan.records
 
 -- the answer is the area with the rows of all records
-abbrev pub Walked : Row → List ℕ → Plan → Moment → Neighbour → (held : ℕ) → List ℕ → List ℕ → Type 0
+abbrev pub Walked : Row → List ℕ → Plan → Moment → Option ℕ → (held : ℕ) → List ℕ → List ℕ → Type 0
 Walked row list plan here near held ws r =
     (other : List (Form plan.m)) → Holds plan.m ws (other_at row (plan.places + 1)) held other
     → r ≡ put_rows ws (own_at row (plan.places + 1)) plan.m

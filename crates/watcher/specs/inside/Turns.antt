@@ -1,5 +1,5 @@
 -- What the functions behind start, feed, ask and close say. Nobody outside has to believe it.
-use Rattle.std.specs.Prelude.{◌≡◌, false, List, [], ℕ, ◌^◌, ◌≤◌, ◌<◌, length, get_or}
+use Rattle.std.specs.Prelude.{◌≡◌, false, List, [], ℕ, ◌^◌, ◌≤◌, ◌<◌, length, get_or, Ok, Err}
 use Rattle.meaning.specs.Rule.{Node, parameters}
 use Rattle.meaning.specs.Words.{Known}
 use Rattle.meaning.specs.Words as words
@@ -11,8 +11,7 @@ use Rattle.rewriting.specs.Plans.{entry_for, closed_with}
 use Rattle.watcher.specs.declared.state.Report.{Report}
 use Rattle.watcher.specs.declared.state.Verdict.{Verdict}
 use Rattle.watcher.specs.declared.state.Phase.TheVariants as phase
-use Rattle.watcher.specs.declared.state.End.{End}
-use Rattle.watcher.specs.declared.state.End.TheVariants as end
+use Rattle.watcher.specs.Answers.{End}
 use Rattle.watcher.specs.declared.state.Ended.{Ended}
 use Rattle.watcher.specs.declared.state.Watcher.{Watcher}
 use Rattle.watcher.specs.Limits.{most_parameters, area_words}
@@ -63,9 +62,9 @@ ended_state w verdict =
 
 -- closing by what asking answers
 unfoldable pub close_by : Watcher → List ℕ → End → Ended × List ℕ
-close_by w ws (end.Refused r) = (record { answer = end.Refused r; next = w }, ws)
-close_by w ws (end.Closed v) = (
-  record { answer = end.Closed v; next = ended_state w v },
+close_by w ws (Err r) = (record { answer = Err r; next = w }, ws)
+close_by w ws (Ok v) = (
+  record { answer = Ok v; next = ended_state w v },
   closed_with (plan_of w) (verdict_value v) ws,
 )
 

@@ -1,5 +1,5 @@
 -- `join_term` turns over, for each term of b, its union with term i.
-use Prim.Native.Nat.{◌-◌}
+use Rattle.std.proofs.Common.{◌≡◌}
 use lib.Bits.{bit_or}
 use lib.Dec.{eqb}
 use Rattle.ground.specs.Bits.{bit_at}
@@ -7,7 +7,7 @@ use Rattle.forms.proofs.Joining.{Adding}
 use Rattle.forms.proofs.join.join_term.Given as goal
 
 abbrev pub invariant-loop-j : goal.invariant-loop-j
-invariant-loop-j live = Adding live.b (bit_at live.initial.r) (λ x l. eqb (bit_or live.i x) l) live.r live.j
-
-abbrev pub decreases-loop-j : goal.decreases-loop-j
-decreases-loop-j l = 4096 - l.j
+invariant-loop-j live =
+    (goal.iterator-loop-j).can_next live.j-iterator × (goal.iterator-loop-j).is_finite live.j-iterator
+    × (live.j-iterator.row.now ≡ live.b)
+    × Adding live.b (bit_at live.initial.r) (λ x l. eqb (bit_or live.i x) l) live.r live.j-iterator.from

@@ -1,36 +1,21 @@
 -- `lone` looks for a first term and a second, and then for the parameter whose term the first is.
-use mathlib.Core.Path.{◌≡◌, ◌∙◌, sym}
-use Prim.Native.Nat.{◌^◌}
-use native.Mathlib.Omega.{arith}
-use borrow.Author.Count.{below_more}
-use Rattle.ground.proofs.Bits.{one_shl}
-use Rattle.forms.proofs.Scanning.{lone_here, lone_none}
+use Rattle.std.proofs.Common.{◌≡◌, sym, ℕ, ◌*◌, ◌%◌, ◌^◌, rules, subst}
+use Rattle.std.proofs.lemmas.Iterator.{first_from_Range}
+use Rattle.forms.specs.inside.Steps.{Lone}
+use Rattle.forms.proofs.Scanning.{seen, unseen, lone_empty, lone_more, lone_found}
 use Rattle.forms.proofs.scan.lone.Goals as goal
 
-pub overflow_add-k : goal.overflow_add-k
-overflow_add-k c = omega (arith, c.next_term-k.ensures.high)
+pub returns-in_err-k : goal.returns-in_err-k
+returns-in_err-k c = subst (Lone c.args.row.now) (sym c.from_residual.ensures) (lone_empty _ c.in_err-k.ensures)
 
-pub returns-then-next_term-lt4096 : goal.returns-then-next_term-lt4096
-returns-then-next_term-lt4096 c =
-    lone_none _ _ _ c.next_term-k.ensures c.next_term.ensures (λ p h e. c.if-next_term-lt4096.true)
-
-pub loop-p-init : goal.loop-p-init
-loop-p-init c = (omega arith, λ q h e. let z : ⊥ = omega arith in z)
-
-pub returns-then-k-p : goal.returns-then-k-p
-returns-then-k-p c =
-    lone_here _ _ _ c.next_term-k.ensures c.next_term.ensures _
-    c.loop-p-test.true c.if-next_term-lt4096.false (c.if-k-p.true ∙ one_shl _ (omega arith))
-
-pub loop-p-preserved : goal.loop-p-preserved
-loop-p-preserved c =
-    let at = c.loop-p in (
-      omega arith,
-      below_more (λ q. c.next_term-k.result ≡ 2 ^ q → ⊥) _ at.invariant.1
-          (λ e. c.if-k-p.false (e ∙ sym (one_shl at.p (omega arith)))),
-    )
+pub returns-then-is_some : goal.returns-then-is_some
+returns-then-is_some c =
+    let second = seen _ _ _ _ c.if-is_some.ensures c.next_term-2.ensures in
+    lone_more _ _ c.in_ok-k.ensures second.0 second.1
 
 pub returns : goal.returns
 returns c =
-    lone_none _ _ _ c.next_term-k.ensures c.next_term.ensures
-    (λ p h e. absurd (c.loop-p.invariant.1 p (omega arith) e))
+    let k : ℕ = c.in_ok-k.k in
+    lone_found _ _ c.in_ok-k.ensures _ (unseen _ _ _ _ c.if-is_some.ensures c.next_term-2.ensures)
+    (first_from_Range _ _ _ _ (λ p. k ≡ (1 * 2 ^ p) % 2 ^ 64) (λ p. k ≡ (1 * 2 ^ p) % 2 ^ 64 → ⊥)
+    c.find.ensures.ran (λ p q e. search rules) (λ p q e. search rules))

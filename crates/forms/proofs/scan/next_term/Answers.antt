@@ -2,22 +2,17 @@
 use mathlib.Core.Path.{◌≡◌}
 use mathlib.Core.Bool.{false}
 use native.Mathlib.Omega.{arith}
-use borrow.Author.Rules.{rules}
 use Rattle.ground.specs.Bits.{bit_at}
 use Rattle.forms.proofs.Scanning.{bit_here, bit_absent, word_absent, onwards, only_one}
 use Rattle.forms.proofs.scan.next_term.Goals as goal
 
-pub loop-k-init : goal.loop-k-init
-loop-k-init c = (search rules, λ i h l. let z : ⊥ = omega arith in absurd z)
-
 pub returns-then-left-eq1 : goal.returns-then-left-eq1
 returns-then-left-eq1 c =
-    let e = c.loop-k.invariant in
     record {
-      high = omega arith;
-      low = λ _. e.0;
-      none = e.1;
-      here = λ _. bit_here _ _ c.if-left-eq1.true;
+      low = c.loop-k.invariant.0;
+      high = c.loop-k-test.true;
+      here = bit_here _ _ c.if-left-eq1.true;
+      none = c.loop-k.invariant.1;
     }
 
 pub loop-k-preserved-then-left-eq0 : goal.loop-k-preserved-then-left-eq0
@@ -33,11 +28,3 @@ loop-k-preserved c = (
   onwards (λ i. bit_at _ i ≡ false) _ _ _ c.loop-k.invariant.1
       (only_one (λ i. bit_at _ i ≡ false) _ (bit_absent _ _ c.if-left-eq1.false)),
 )
-
-pub returns : goal.returns
-returns c = record {
-  high = omega arith;
-  low = λ h. h;
-  none = λ i h l. c.loop-k.invariant.1 i h (omega arith);
-  here = λ h. let z : ⊥ = omega arith in absurd z;
-}

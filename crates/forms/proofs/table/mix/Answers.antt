@@ -1,22 +1,18 @@
 -- `mix` makes each word of a xor (row q of the tables and b).
-use mathlib.Core.Path.{refl}
-use native.Mathlib.Omega.{arith}
-use borrow.Author.Rules.{rules}
-use Rattle.ground.proofs.Tabs.{filled_more}
+use Rattle.std.proofs.Common.{rules, get_or, ◌≡◌, ◌+◌, ◌*◌}
+use lib.Bits.{bit_xor, bit_and}
+use Rattle.ground.proofs.Tabs.{filled_each}
 use Rattle.forms.proofs.Putting.{mixed_at}
 use Rattle.forms.proofs.table.mix.Goals as goal
 
-pub loop-i-init : goal.loop-i-init
-loop-i-init c = (omega arith, refl, λ j h. let z : ⊥ = omega arith in absurd z)
-
-pub loop-i-preserved : goal.loop-i-preserved
-loop-i-preserved c = (
-  omega arith,
-  search rules,
-  filled_more c.loop-i.r _ _ 0 _ (search rules) refl c.loop-i.invariant.2,
-)
-
 pub returns : goal.returns
 returns c =
-    mixed_at _ c.args.tables.now _ _ c.loop-i.r c.loop-i.invariant.1
-    (λ i h. c.loop-i.invariant.2 i (omega arith))
+    let filled = c.from_fn.ensures.items in
+    mixed_at _ c.args.tables.now c.args.q _ c.from_fn.result filled.long
+    (λ i h.
+    filled_each
+    (λ j x.
+    x
+    ≡ bit_xor (get_or c.args.a j 0)
+    (bit_and (get_or c.args.tables.now (64 * c.args.q + j) 0) (get_or c.args.b j 0)))
+    (λ j x q e. search rules) filled i 0 h)

@@ -1,20 +1,11 @@
 -- `pass_word` makes word i of the row after the pass of parameter p.
 use native.Mathlib.Omega.{arith}
 use Rattle.ground.proofs.Bits.{one_shl}
-use Rattle.forms.proofs.Passing.{step_in, step_pos, odd_le, pass_inside, pass_across, pass_kept}
+use Rattle.forms.proofs.Passing.{pass_inside, pass_across, pass_kept}
 use Rattle.forms.proofs.table.pass_word.Goals as goal
-
-pub overflow_shl-result : goal.overflow_shl-result
-overflow_shl-result c = step_in _ c.if-p-lt6.true
 
 pub returns-then-p-lt6 : goal.returns-then-p-lt6
 returns-then-p-lt6 c = pass_inside _ _ _ c.if-p-lt6.true
-
-pub nonzero_div-i : goal.nonzero_div-i
-nonzero_div-i c = step_pos _ (omega arith)
-
-pub overflow_sub-result : goal.overflow_sub-result
-overflow_sub-result c = odd_le _ _ c.if-i-by-eq1.true
 
 pub returns-then-i-by-eq1 : goal.returns-then-i-by-eq1
 returns-then-i-by-eq1 c = pass_across _ _ _ _ c.if-p-lt6.false (one_shl _ (omega arith)) c.if-i-by-eq1.true

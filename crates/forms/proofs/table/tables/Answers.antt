@@ -1,5 +1,4 @@
 -- `tables` puts the tables of twelve rows one behind the other.
-use mathlib.Core.Path.{refl}
 use Prim.Native.Nat.{◌<◌}
 use native.Mathlib.Omega.{arith}
 use borrow.Author.Rules.{rules}
@@ -8,9 +7,6 @@ use Rattle.forms.specs.Area.{form_in}
 use Rattle.forms.specs.inside.Steps.{only_named}
 use Rattle.forms.proofs.Widening.{tables_more}
 use Rattle.forms.proofs.table.tables.Goals as goal
-
-pub loop-j-init : goal.loop-j-init
-loop-j-init c = (omega arith, refl, λ rows h j l. let z : ⊥ = omega arith in absurd z)
 
 pub loop-j-preserved : goal.loop-j-preserved
 loop-j-preserved c =
@@ -23,6 +19,3 @@ loop-j-preserved c =
           tables_more _ _ _ _ (only_named _ (form_in most rows)) sofar.1 less (c.table_at-t.ensures rows h)
           c.store.ensures (sofar.2 rows h),
     )
-
-pub returns : goal.returns
-returns c rows h j l = c.loop-j.invariant.2 rows h j (omega arith)

@@ -1,7 +1,7 @@
 -- `tables` puts the tables of twelve rows one behind the other.
 use mathlib.Core.Path.{◌≡◌}
 use mathlib.Core.List.{List}
-use Prim.Native.Nat.{◌-◌, ◌≤◌}
+use Prim.Native.Nat.{◌≤◌}
 use lib.ListN.{length}
 use Rattle.forms.specs.Form.{Form}
 use Rattle.forms.specs.Words.{most}
@@ -14,6 +14,3 @@ invariant-loop-j l =
     (l.j ≤ 12) × (length l.ts ≡ 768)
     × ((rows : List (Form most)) → Holds most l.area l.base l.count rows
     → Tables l.ts l.j (only_named l.named (form_in most rows)))
-
-abbrev pub decreases-loop-j : goal.decreases-loop-j
-decreases-loop-j l = 12 - l.j

@@ -1,26 +1,20 @@
 -- `layout::read_state` reads the lists, the numbers and the phase.
-use Prim.Native.Nat.{◌<◌}
-use Rattle.ground.specs.Bytes.{little}
-use native.Mathlib.Omega.{arith}
-use Rattle.ground.proofs.ByteLaws.{little_lt}
-use Rattle.port.specs.Layout.{word_place}
+use Rattle.std.proofs.Common.{arith, refl}
+use Rattle.ground.proofs.ByteLaws.{of_two, of_four}
 use Rattle.port.proofs.Layouts.{read_none, read_some}
 use Rattle.port.proofs.layout.read_state.Goals as goal
 
 pub returns-then-number-gt3 : goal.returns-then-number-gt3
-returns-then-number-gt3 c =
-    read_none _ _ (omega (arith, c.byte-number.ensures, c.if-number-gt3.true)) c.zero_state.ensures
+returns-then-number-gt3 c = read_none _ _ c.if-number-gt3.true c.zero_state.ensures
 
-pub overflow_cast-two : goal.overflow_cast-two
-overflow_cast-two c =
-    let start = c.args in
-    let h : little start.bytes.now word_place 2 < 65536 =
-    little_lt start.bytes.now word_place 2
-    (λ i. (c.type_inv.bytes i).fits) in
-    omega (arith, h, c.two.ensures)
+pub overflow_cast-time : goal.overflow_cast-time
+overflow_cast-time c = omega (arith, (of_four _ _ _ (λ i. (c.type_inv.bytes i).fits) c.little-time.ensures).1)
+
+pub overflow_cast-signals : goal.overflow_cast-signals
+overflow_cast-signals c = omega (arith, (of_two _ _ _ (λ i. (c.type_inv.bytes i).fits) c.little-signals.ensures).1)
 
 pub returns : goal.returns
 returns c =
-    read_some _ _ _ _ _ _ _ _ _ c.byte-number.ensures c.if-number-gt3.false
-    c.list_at-rule.ensures c.list_at-list.ensures c.four.ensures c.two.ensures
-    c.phase_with-phase.ensures c.eight.ensures c.eight-2.ensures
+    read_some _ _ _ _ _ _ _ _ _ refl c.if-number-gt3.false
+    c.list_at.ensures c.list_at-2.ensures c.little-time.ensures c.little-signals.ensures
+    c.phase_with.ensures c.little.ensures c.little-2.ensures

@@ -1,16 +1,14 @@
--- `derived::next_row` tells a neighbour from none.
-use Rattle.rewriting.specs.inside.Steps.{interval_in}
-use Rattle.rewriting.proofs.Neighbours.{next_none, next_at}
+-- `derived::next_row` reads left where the record beside is in the interval.
+use Rattle.meaning.specs.Rewriting.{only_if}
+use Rattle.rewriting.proofs.Neighbours.{next_beside}
 use Rattle.rewriting.proofs.derived.next_row.Goals as goal
 
-pub returns-in-None : goal.returns-in-None
-returns-in-None c m forms h =
-    next_none c.args.step _ m forms c.in-None.is
-    (c.constant.ensures m)
+pub returns-then-sees_neighbour : goal.returns-then-sees_neighbour
+unfolding only_if
+returns-then-sees_neighbour c m forms h =
+    rw (← next_beside m forms, ← c.sees_neighbour.ensures, c.if-sees_neighbour.true) (c.row_of.ensures m forms h)
 
-pub returns-in-At : goal.returns-in-At
-unfolding interval_in
-returns-in-At c m forms h =
-    next_at c.args.step _ m forms _ _
-    c.in-At.is c.inside-test.ensures
-    (c.only_row.ensures m forms h)
+pub returns-else-sees_neighbour : goal.returns-else-sees_neighbour
+unfolding only_if
+returns-else-sees_neighbour c m forms h =
+    rw (← next_beside m forms, ← c.sees_neighbour.ensures, c.if-sees_neighbour.false) (c.constant.ensures m)

@@ -1,36 +1,61 @@
 -- `ending::end_value` goes by the kind of the record.
-use native.Mathlib.Omega.{arith}
-use mathlib.Core.Path.{refl}
-use Rattle.rewriting.specs.inside.Steps.{interval_in}
-use Rattle.rewriting.proofs.Endings.{end_signal, end_quiet, end_inside, end_outside, end_past}
+use mathlib.Core.Path.{◌≡◌, refl}
+use mathlib.Core.Logic.{⊎_elim}
+use mathlib.Core.Bool.{false}
+use Rattle.meaning.specs.Rule.{Node, holds}
+use Rattle.meaning.proofs.Ending.{end_value}
+use Rattle.rewriting.specs.declared.kind.Kind.TheVariants.{True, False, Signal, And, Xor, Next, Until}
+use Rattle.rewriting.specs.Decode.{interval_for}
+use Rattle.rewriting.specs.inside.Steps.{entry_in}
+use Rattle.rewriting.proofs.ByKind.{is_kind, kind_past}
+use Rattle.rewriting.proofs.Endings.{end_is, end_of}
 use Rattle.rewriting.proofs.ending.end_value.Goals as goal
 
-pub returns-then-kind-eq-SIGNAL : goal.returns-then-kind-eq-SIGNAL
-returns-then-kind-eq-SIGNAL c past forms derived alone hp hf hs =
-    let a = c.args in
-    end_signal a.step past forms derived alone a.setting hs _ c.if-kind-eq-SIGNAL.true c.signal.ensures
+pub returns-in-True : goal.returns-in-True
+unfolding end_value
+returns-in-True c past forms derived alone hp hf hs =
+    let step = c.args.step in
+    let d = step.record in
+    let P = λ (x : Node). false ≡ end_of step past forms derived alone c.args.setting hs false x in
+    end_is step past forms derived alone c.args.setting hs _
+    (⊎_elim (λ q. is_kind d P True q refl) (⊎_elim (λ q. is_kind d P False q refl)
+    (⊎_elim (λ q. is_kind d P And q refl) (⊎_elim (λ q. is_kind d P Xor q refl) (λ q. is_kind d P Next q refl))))
+    c.in-True.is)
 
-pub returns-then-kind-lt-UNTIL : goal.returns-then-kind-lt-UNTIL
-returns-then-kind-lt-UNTIL c past forms derived alone hp hf hs =
-    end_quiet c.args.step past forms derived alone c.args.setting hs _ c.requires.some
-    c.if-kind-lt-UNTIL.true c.if-kind-eq-SIGNAL.false refl
+pub returns-in-Signal : goal.returns-in-Signal
+unfolding end_value holds entry_in
+returns-in-Signal c past forms derived alone hp hf hs =
+    let step = c.args.step in
+    let b = c.signal.result in
+    end_is step past forms derived alone c.args.setting hs b
+    (is_kind step.record (λ x. b ≡ end_of step past forms derived alone c.args.setting hs b x)
+    Signal c.in-Signal.is c.signal.ensures)
 
-pub returns-then-inside_now : goal.returns-then-inside_now
-unfolding interval_in
-returns-then-inside_now c past forms derived alone hp hf hs =
-    end_inside c.args.step past forms derived alone c.args.setting hs _ _
-    c.if-kind-eq-UNTIL.true c.inside_now.ensures
-    c.if-inside_now.true
-    (c.value.ensures _ _ c.requires.few (c.row_of.ensures _ forms hf))
+pub returns-in-Previous : goal.returns-in-Previous
+unfolding end_value
+returns-in-Previous c past forms derived alone hp hf hs =
+    let step = c.args.step in
+    let found = c.value-in-Previous.ensures _ _ c.args.step.few (c.row_of-in-Previous.ensures _ past hp) in
+    let b = c.value-in-Previous.result in
+    end_is step past forms derived alone c.args.setting hs b
+    (kind_past step.record (λ x. b ≡ end_of step past forms derived alone c.args.setting hs b x) found found
+    c.in-Previous.is)
 
-pub returns-then-kind-eq-UNTIL : goal.returns-then-kind-eq-UNTIL
-unfolding interval_in
-returns-then-kind-eq-UNTIL c past forms derived alone hp hf hs =
-    let a = c.args in
-    end_outside a.step past forms derived alone a.setting hs _ _ c.if-kind-eq-UNTIL.true
-    c.inside_now.ensures c.if-inside_now.false refl
+pub returns-then-sees_itself : goal.returns-then-sees_itself
+unfolding end_value entry_in interval_for
+returns-then-sees_itself c past forms derived alone hp hf hs =
+    let step = c.args.step in
+    let b = c.value.result in
+    end_is step past forms derived alone c.args.setting hs b
+    (is_kind step.record (λ x. b ≡ end_of step past forms derived alone c.args.setting hs b x) Until c.in-Until.is
+    (rw (← c.sees_itself.ensures, c.if-sees_itself.true)
+    (c.value.ensures _ _ c.args.step.few (c.row_of.ensures _ forms hf))))
 
-pub returns : goal.returns
-returns c past forms derived alone hp hf hs =
-    end_past c.args.step past forms derived alone c.args.setting hs _ (omega arith)
-    (c.value-2.ensures _ _ c.requires.few (c.row_of-2.ensures _ past hp))
+pub returns-else-sees_itself : goal.returns-else-sees_itself
+unfolding end_value entry_in interval_for
+returns-else-sees_itself c past forms derived alone hp hf hs =
+    let step = c.args.step in
+    let b = c.sees_itself.result in
+    end_is step past forms derived alone c.args.setting hs b
+    (is_kind step.record (λ x. b ≡ end_of step past forms derived alone c.args.setting hs b x) Until c.in-Until.is
+    (rw (← c.sees_itself.ensures, c.if-sees_itself.false)))

@@ -1,6 +1,6 @@
 -- `ending::end_values` sets the value of shift after shift.
 use borrow.Author.Rules.{rules}
-use Rattle.rewriting.proofs.Endings.{ends_none, ends_more, ends_done}
+use Rattle.rewriting.proofs.Endings.{ends_none, ends_more}
 use Rattle.rewriting.proofs.ending.end_values.Goals as goal
 
 pub loop-n-init : goal.loop-n-init
@@ -14,11 +14,6 @@ loop-n-preserved c =
     let old = c.loop-n.invariant.1 in (
       search rules,
       ends_more a.step a.forms.now a.k a.area.now a.setting _ _ _ _ old
-          c.end_value-b.ensures c.with_value-grown.ensures,
+          _ c.at_shift.ensures.0 c.at_shift.ensures.1 c.end_value-b.ensures
+          c.with_value-grown.ensures,
     )
-
-pub returns : goal.returns
-returns c =
-    let a = c.args in
-    let p = c.loop-n.invariant in
-    ends_done a.step a.forms.now a.k a.area.now a.setting _ _ _ p.1 p.0 c.loop-n-test.false

@@ -2,10 +2,10 @@
 use native.Mathlib.Omega.{arith}
 use borrow.Author.Rules.{rules}
 use Rattle.meaning.specs.Rule.{first_of}
-use Rattle.rewriting.specs.declared.step.Neighbour.TheVariants.{None}
+use Rattle.std.specs.Prelude.{None}
 use Rattle.rewriting.proofs.Counting.{first_of_rule}
-use Rattle.rewriting.proofs.Walking.{step_count, block_fits, step_ready}
-use Rattle.rewriting.proofs.Lasting.{last_none, last_more, last_done}
+use Rattle.rewriting.proofs.Walking.{first_fits, step_count, block_fits, step_ready}
+use Rattle.rewriting.proofs.Lasting.{last_none, last_more}
 use Rattle.rewriting.proofs.ending.last_setting.Goals as goal
 
 pub loop-k-init : goal.loop-k-init
@@ -14,24 +14,27 @@ loop-k-init c =
     let a = c.args in
     (search rules, search rules, last_none a.list.now a.plan a.last a.area.now)
 
+pub step_at-step-requires : goal.step_at-step-requires
+step_at-step-requires c = first_fits c.args.list.now c.args.plan c.requires.0 _ _ c.loop-k.invariant.1
+
 pub end_values-setting-requires : goal.end_values-setting-requires
 end_values-setting-requires c =
     let a = c.args in
     let sound = c.requires.0 in
     let here = c.loop-k in
-    let is = c.step_at-step.ensures in
-    let counted = step_count a.list.now here.k _ _ a.last None _ _ is c.count_of-count.ensures.0 in
+    let is = c.step_at-step.ensures.2 in
+    let counted = step_count a.list.now here.k _ _ a.last None _ _ _ _ is c.count_of-count.ensures.0 in
     let ready =
     step_ready a.list.now a.plan sound here.k here.first _ c.loop-k-test.true
-    here.invariant.1 counted a.last None _ is 0 (omega arith) in
-    (ready.0, omega (arith, ready.1.behind, sound.room))
+    here.invariant.1 counted a.last None _ _ _ is 0 (omega arith) in
+    omega (arith, ready.behind, sound.room)
 
 pub overflow_add-first : goal.overflow_add-first
 overflow_add-first c =
     let here = c.loop-k in
     let a = c.args in
     let sound = c.requires.0 in
-    let counted = step_count a.list.now here.k _ _ a.last None _ _ c.step_at-step.ensures
+    let counted = step_count a.list.now here.k _ _ a.last None _ _ _ _ c.step_at-step.ensures.2
     c.count_of-count.ensures.0 in
     let fits = block_fits a.list.now a.plan sound here.k here.first _
     c.loop-k-test.true here.invariant.1 counted in
@@ -42,17 +45,11 @@ loop-k-preserved c =
     let a = c.args in
     let here = c.loop-k in
     let less = c.loop-k-test.true in
-    let read = c.step_at-step.ensures in
-    let counted = step_count a.list.now here.k _ _ a.last None _ _ read c.count_of-count.ensures.0 in
+    let read = c.step_at-step.ensures.2 in
+    let counted = step_count a.list.now here.k _ _ a.last None _ _ _ _ read c.count_of-count.ensures.0 in
     let more = first_of_rule a.list.now a.plan.records here.k less in (
       search rules,
       omega arith,
       last_more a.list.now a.plan a.last a.area.now a.forms.now c.requires here.k here.first
-          _ _ _ _ less here.invariant.1 counted read here.invariant.2 c.end_values-setting.ensures,
+          _ _ _ _ less here.invariant.1 counted _ _ read here.invariant.2 c.end_values-setting.ensures,
     )
-
-pub returns : goal.returns
-returns c =
-    let a = c.args in
-    let inv = c.loop-k.invariant in
-    last_done a.list.now a.plan a.last a.area.now _ _ inv.2 inv.0 c.loop-k-test.false

@@ -1,34 +1,46 @@
 -- `form::form_row` goes by the kind of the record.
-use Rattle.rewriting.proofs.RecordForms.{form_true, form_false, form_both, form_either, form_own}
+use mathlib.Core.Path.{◌≡◌}
+use mathlib.Core.Logic.{⊎_elim}
+use mathlib.Core.List.{List}
+use Prim.Native.Nat.{ℕ}
+use Rattle.forms.specs.Form.{Form}
+use Rattle.forms.specs.Words.{pack}
+use Rattle.meaning.specs.Rule.{Node}
+use Rattle.meaning.specs.Rewriting.{form_of}
+use Rattle.rewriting.specs.declared.kind.Kind.TheVariants.{True, False, Signal, And, Xor, Next, Until}
+use Rattle.rewriting.proofs.ByKind.{is_kind, kind_past}
 use Rattle.rewriting.proofs.form.form_row.Goals as goal
-use Rattle.rewriting.proofs.form.form_row.Goals.{then-kind-ne-AND+else-kind-ne-XOR, else-kind-ne-AND}
 
-pub returns-then-kind-eq-TRUE : goal.returns-then-kind-eq-TRUE
-returns-then-kind-eq-TRUE c forms h = form_true _ forms _ _ _ c.if-kind-eq-TRUE.true (c.constant.ensures _)
+abbrev Forms : (m : ℕ) → List (Form m) → ℕ → List ℕ → Node → Type 0
+Forms m forms first r d = r ≡ pack m (form_of m forms first d)
 
-pub returns-then-kind-eq-FALSE : goal.returns-then-kind-eq-FALSE
-returns-then-kind-eq-FALSE c forms h =
-    form_false _ forms _ _ _ c.if-kind-eq-FALSE.true (c.constant-then-kind-eq-FALSE.ensures _)
+pub returns-in-True : goal.returns-in-True
+unfolding form_of
+returns-in-True c forms h =
+    is_kind c.args.record (Forms _ forms c.args.first _) True c.in-True.is (c.constant.ensures _)
 
-pub returns-then-kind-ne-XOR : goal.returns-then-kind-ne-XOR
-returns-then-kind-ne-XOR c forms h =
-    form_own _ forms _ _ _ c.if-kind-eq-TRUE.false c.if-kind-eq-FALSE.false
-    c.if-kind-ne-AND.true c.if-kind-ne-XOR.true c.parameter.ensures
+pub returns-in-False : goal.returns-in-False
+unfolding form_of
+returns-in-False c forms h =
+    is_kind c.args.record (Forms _ forms c.args.first _) False c.in-False.is (c.constant-in-False.ensures _)
 
-pub returns-then-kind-eq-AND : goal.returns-then-kind-eq-AND
-returns-then-kind-eq-AND c forms h =
-    form_both _ forms _ _ _ c.if-kind-eq-AND.true
-    (c.and.ensures _ _ _
-    c.requires
-    (c.row_of-left.ensures _ forms h) (c.row_of-right.ensures _ forms h))
+pub returns-in-And : goal.returns-in-And
+unfolding form_of
+returns-in-And c forms h =
+    is_kind c.args.record (Forms _ forms c.args.first _) And c.in-And.is
+    (c.and.ensures _ _ _ c.requires (c.row_of.ensures _ forms h) (c.row_of-in-And.ensures _ forms h))
 
-pub returns : goal.returns
-returns c forms h =
-    form_either _ forms _ _ _
-    (elim c.if-kind-ne-AND.branch [
-      | then-kind-ne-AND+else-kind-ne-XOR w ↦ w.if-kind-ne-XOR.false
-      | else-kind-ne-AND w ↦ absurd (c.if-kind-eq-AND.false w.if-kind-ne-AND.false)
-    ])
-    (c.xor.ensures _ _ _
-    c.requires
-    (c.row_of-left.ensures _ forms h) (c.row_of-right.ensures _ forms h))
+pub returns-in-Xor : goal.returns-in-Xor
+unfolding form_of
+returns-in-Xor c forms h =
+    is_kind c.args.record (Forms _ forms c.args.first _) Xor c.in-Xor.is
+    (c.xor.ensures _ _ _ c.requires (c.row_of-in-Xor.ensures _ forms h) (c.row_of-in-Xor-2.ensures _ forms h))
+
+pub returns-in-Signal : goal.returns-in-Signal
+unfolding form_of
+returns-in-Signal c forms h =
+    let d = c.args.record in
+    let own = Forms c.args.m forms c.args.first c.parameter.result in
+    let is = c.parameter.ensures in
+    ⊎_elim (λ q. is_kind d own Signal q is) (⊎_elim (λ q. is_kind d own Next q is)
+    (⊎_elim (λ q. is_kind d own Until q is) (kind_past d own is is))) c.in-Signal.is

@@ -1,13 +1,17 @@
 -- `parts::now_or` joins both parts of an until or a since.
-use Rattle.rewriting.specs.inside.Steps.{interval_in, now_or}
-use Rattle.rewriting.proofs.Neighbours.{test_same}
+use Rattle.meaning.specs.Rewriting.{put, only_if}
+use Rattle.rewriting.specs.inside.Steps.{now_or}
+use Rattle.rewriting.proofs.Shifts.{nothing_or}
 use Rattle.rewriting.proofs.parts.now_or.Goals as goal
 
-pub returns : goal.returns
-unfolding interval_in now_or
-returns c f g rows ef eg h =
-    let step = c.args.step in
-    let few = c.requires.few in
-    c.or.ensures step.m _ _ few
-    (test_same step.m _ _ _ _ c.inside_now-test.ensures
-    (c.only_put-first.ensures step.m _ rows few ef h)) eg
+pub returns-then-sees_itself : goal.returns-then-sees_itself
+unfolding now_or only_if put
+returns-then-sees_itself c f g rows ef eg h =
+    let few = c.args.step.few in
+    rw (← c.sees_itself.ensures, c.if-sees_itself.true)
+    (c.or.ensures _ _ _ few (c.put_in.ensures _ _ rows few ef h) eg)
+
+pub returns-else-sees_itself : goal.returns-else-sees_itself
+unfolding now_or only_if
+returns-else-sees_itself c f g rows ef eg h =
+    rw (← c.sees_itself.ensures, c.if-sees_itself.false, nothing_or) eg

@@ -1,20 +1,17 @@
--- `past::previous_row` tells a neighbour from none.
-use Rattle.meaning.specs.Rewriting.{put}
-use Rattle.rewriting.specs.inside.Steps.{interval_in}
-use Rattle.rewriting.proofs.Neighbours.{previous_none, previous_at}
+-- `past::previous_row` reads left where the record beside is in the interval.
+use Rattle.meaning.specs.Rewriting.{put, only_if}
+use Rattle.rewriting.specs.inside.Steps.{previous_of}
+use Rattle.rewriting.proofs.Neighbours.{previous_beside}
 use Rattle.rewriting.proofs.past.previous_row.Goals as goal
 
-pub returns-in-None : goal.returns-in-None
-returns-in-None c forms derived past e h =
-    previous_none c.args.step _ forms derived past
-    c.in-None.is (c.constant.ensures _)
+pub returns-then-sees_neighbour : goal.returns-then-sees_neighbour
+unfolding previous_of only_if put
+returns-then-sees_neighbour c forms derived past e h =
+    let few = c.args.step.few in
+    rw (← previous_beside _ forms, ← c.sees_neighbour.ensures, c.if-sees_neighbour.true)
+    (c.put_in.ensures _ _ past few (c.put_in-derived.ensures _ _ derived few e h.theirs) h.mine)
 
-pub returns-in-At : goal.returns-in-At
-unfolding interval_in put
-returns-in-At c forms derived past e h =
-    let step = c.args.step in
-    let few = c.requires.few in
-    previous_at step _ forms derived past _ _ c.in-At.is
-    c.inside-test.ensures
-    (c.only_put.ensures step.m _ past few (c.put_in-derived.ensures step.m _ derived few e h.theirs)
-    h.mine)
+pub returns-else-sees_neighbour : goal.returns-else-sees_neighbour
+unfolding previous_of only_if
+returns-else-sees_neighbour c forms derived past e h =
+    rw (← previous_beside _ forms, ← c.sees_neighbour.ensures, c.if-sees_neighbour.false) (c.constant.ensures _)

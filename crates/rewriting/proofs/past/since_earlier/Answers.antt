@@ -1,22 +1,25 @@
--- `past::since_earlier` tells a neighbour from none.
+-- `past::since_earlier` moves the shift by the gap to the record beside.
+use mathlib.Core.Path.{ap, ◌∙◌}
+use Rattle.forms.specs.Words.{pack}
 use Rattle.meaning.specs.Rewriting.{put}
-use Rattle.rewriting.specs.inside.Steps.{interval_in}
-use Rattle.rewriting.proofs.Neighbours.{earlier_none, earlier_at}
+use Rattle.rewriting.specs.inside.Steps.{earlier_of}
+use Rattle.rewriting.proofs.Shifts.{nothing}
+use Rattle.rewriting.proofs.Neighbours.{earlier_gone, earlier_to}
 use Rattle.rewriting.proofs.past.since_earlier.Goals as goal
 
-pub returns-in-None : goal.returns-in-None
-returns-in-None c forms derived past e h =
-    earlier_none c.args.step _ forms derived past
-    c.in-None.is (c.constant.ensures _)
-
-pub returns-in-At : goal.returns-in-At
-unfolding interval_in put
-returns-in-At c forms derived past e h =
+pub returns-in_default : goal.returns-in_default
+unfolding earlier_of
+returns-in_default c forms derived past e h =
     let step = c.args.step in
-    let few = c.requires.few in
-    earlier_at step _ forms derived past _ _
-    c.in-At.is
-    c.moved-shift.ensures.0
-    (c.and.ensures step.m _ _ few (c.put_in-kept.ensures step.m _ past few e h.mine)
-    (c.put_in-before.ensures step.m _ past few
-    (c.row_to-derived.ensures step.m derived h.theirs) h.mine))
+    c.constant.ensures _
+    ∙ ap (pack step.m) (earlier_gone _ forms _ _ _ derived step.first _ _ _ c.moved.ensures.0 past
+    (nothing _ c.in_default.not-Some))
+
+pub returns : goal.returns
+unfolding earlier_of put
+returns c forms derived past e h =
+    let step = c.args.step in
+    let few = c.args.step.few in
+    c.and.ensures step.m _ _ few (c.put_in-kept.ensures step.m _ past few e h.mine)
+    (c.put_in-before.ensures step.m _ past few (c.row_of-derived.ensures step.m derived h.theirs) h.mine)
+    ∙ ap (pack step.m) (earlier_to _ forms _ _ _ derived step.first _ _ _ c.moved.ensures.0 past _ c.in-Some.is)

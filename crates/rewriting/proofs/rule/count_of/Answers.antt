@@ -1,24 +1,28 @@
--- `rule::count_of` meets its contract: one law for each group of kinds.
-use native.Mathlib.Omega.{arith}
+-- `rule::count_of` goes by the kind of the record.
+use mathlib.Core.Path.{◌≡◌, refl}
+use mathlib.Core.Logic.{⊎_elim}
 use borrow.Author.Rules.{rules}
-use Rattle.rewriting.proofs.Counting.{count_one, count_none, count_shifts}
+use Rattle.meaning.specs.Rule.{count}
+use Rattle.rewriting.specs.declared.kind.Kind.TheVariants.{Signal, Next, Until, Previous}
+use Rattle.rewriting.proofs.ByKind.{is_kind, kind_quiet, kind_since}
 use Rattle.rewriting.proofs.rule.count_of.Goals as goal
-use Rattle.rewriting.proofs.rule.count_of.Goals.{in_default-via-then-kind-lt1}
-use Rattle.rewriting.proofs.rule.count_of.Goals.{in_default-via-else-kind-lt1+else-kind-lt6}
 
-pub returns-in-3 : goal.returns-in-3
-returns-in-3 c = (count_one c.args.record c.in-3.is, search rules)
+pub returns-in-True : goal.returns-in-True
+unfolding count
+returns-in-True c = (kind_quiet c.args.record (λ d. 0 ≡ count d) refl refl refl refl c.in-True.is, search rules)
 
-pub returns-in-1 : goal.returns-in-1
-returns-in-1 c = (count_none c.args.record (λ o. omega arith) (omega arith) (omega arith), search rules)
+pub returns-in-Signal : goal.returns-in-Signal
+unfolding count
+returns-in-Signal c =
+    let one = is_kind c.args.record (λ d. 1 ≡ count d) in (
+      ⊎_elim (λ q. one Signal q refl) (⊎_elim (λ q. one Next q refl) (λ q. one Previous q refl)) c.in-Signal.is,
+      search rules,
+    )
 
-pub returns-in_default : goal.returns-in_default
-returns-in_default c = (
-  elim c.in_default.branch [
-    | in_default-via-then-kind-lt1 w ↦
-        count_shifts c.args.record _ (λ o. omega arith) (λ h l. omega arith) c.shifts.ensures.0
-    | in_default-via-else-kind-lt1+else-kind-lt6 w ↦
-        count_shifts c.args.record _ (λ o. omega arith) (λ h l. omega arith) c.shifts.ensures.0
-  ],
+pub returns-in-Until : goal.returns-in-Until
+unfolding count
+returns-in-Until c = (
+  ⊎_elim (λ q. is_kind c.args.record (λ d. c.shifts.result ≡ count d) Until q c.shifts.ensures.0)
+      (kind_since c.args.record (λ d. c.shifts.result ≡ count d) c.shifts.ensures.0) c.in-Until.is,
   c.shifts.ensures.1,
 )

@@ -5,16 +5,10 @@ use Rattle.meaning.specs.Rule.{first_of}
 use Rattle.rewriting.proofs.Counting.{first_of_rule, parameters_done, counts_same}
 use Rattle.rewriting.proofs.Rules.{record_count}
 use Rattle.rewriting.proofs.rule.parameters_in.Goals as goal
-use Rattle.rewriting.proofs.rule.parameters_in.Goals.{then-n-lt-RECORDS, else-n-lt-RECORDS}
 
 pub loop-k-init : goal.loop-k-init
 unfolding first_of
-loop-k-init c = (
-  elim c.if-n-lt-RECORDS.branch [ then-n-lt-RECORDS w ↦ omega arith | else-n-lt-RECORDS w ↦ omega arith ],
-  search rules,
-  search rules,
-  search rules,
-)
+loop-k-init c = (search rules, search rules, search rules, search rules)
 
 pub loop-k-preserved : goal.loop-k-preserved
 loop-k-preserved c =

@@ -1,23 +1,25 @@
--- `shape::bits_above` meets its contract: no row before place `j` has a bit above.
-use mathlib.Core.Path.{sym, ◌∙◌}
-use borrow.Author.Count.{below_none, below_more}
-use native.Mathlib.Omega.{arith}
+-- `shape::bits_above` looks at each row, and at the remainder last.
+use mathlib.Core.Path.{refl}
+use mathlib.Core.Bool.{not}
 use borrow.Author.Rules.{rules}
-use Rattle.rewriting.proofs.TidyRows.{bits_found, bits_last}
+use Rattle.forms.specs.Words.{fits}
+use Rattle.forms.specs.Area.{row_at}
+use Rattle.rewriting.specs.Shape.{bits_above}
+use Rattle.rewriting.proofs.Ranges.{any_range}
 use Rattle.rewriting.proofs.shape.bits_above.Goals as goal
 
-pub loop-j-init : goal.loop-j-init
-loop-j-init c = (search rules, below_none _)
+pub returns-then-any : goal.returns-then-any
+unfolding bits_above
+returns-then-any c =
+    let a = c.args in
+    let is = any_range (λ j. not (fits a.m (row_at a.area.now j))) a.places _ _ _ _ refl c.any.ensures.ran
+    (λ x b q k. search rules) in
+    rw (← is, c.if-any.true)
 
-pub returns-then-row_above : goal.returns-then-row_above
-returns-then-row_above c =
-    bits_found _ _ _ _ c.loop-j-test.true (sym c.row_above.ensures ∙ c.if-row_above.true)
-
-pub loop-j-preserved : goal.loop-j-preserved
-loop-j-preserved c = (
-  search rules,
-  below_more _ _ c.loop-j.invariant.1 (sym c.row_above.ensures ∙ c.if-row_above.false),
-)
-
-pub returns : goal.returns
-returns c = bits_last _ _ _ _ (λ j h. c.loop-j.invariant.1 j (omega arith)) c.row_above-2.ensures
+pub returns-else-any : goal.returns-else-any
+unfolding bits_above
+returns-else-any c =
+    let a = c.args in
+    let is = any_range (λ j. not (fits a.m (row_at a.area.now j))) a.places _ _ _ _ refl c.any.ensures.ran
+    (λ x b q k. search rules) in
+    rw (← is, c.if-any.false) c.row_above.ensures

@@ -1,6 +1,6 @@
 -- `shape::here_at` reads the record's bytes and counts its parameters.
 use Rattle.rewriting.proofs.RecordRows.{tells, placed}
-use Rattle.rewriting.proofs.Rules.{record_node, record_count, record_kind}
+use Rattle.rewriting.proofs.Rules.{record_node, record_count}
 use Rattle.rewriting.proofs.shape.here_at.Goals as goal
 
 pub returns : goal.returns
@@ -10,4 +10,4 @@ returns c =
     let t =
     tells list c.args.plan _ _ c.requires.1 (record_node _ _ _ is)
     (record_count _ _ _ is _ c.count_of.ensures.0) c.requires.2 in
-    (t, placed list c.args.plan c.requires.0 _ _ c.requires.1 t (record_kind _ _ _ is))
+    (t, placed list c.args.plan c.requires.0 _ _ c.requires.1 t)

@@ -1,17 +1,17 @@
--- `shape::widen` adds the record's own parameters, if it is next or until.
-use native.Mathlib.Omega.{arith}
-use Rattle.rewriting.proofs.RecordRows.{one_some, widen_before, widen_after, widen_own}
+-- `shape::widen` takes the own parameters in where the record looks forward.
+use mathlib.Core.Path.{◌≡◌, refl}
+use mathlib.Core.Bool.{true}
+use Rattle.rewriting.specs.Shape.{looks_forward}
+use Rattle.rewriting.proofs.ByKind.{kind_future, looks_back}
+use Rattle.rewriting.proofs.RecordRows.{widen_kept, widen_own}
 use Rattle.rewriting.proofs.shape.widen.Goals as goal
 
-pub overflow_sub-own : goal.overflow_sub-own
-overflow_sub-own c = let p = c.requires in one_some _ (omega (arith, p.few, p.within))
+pub returns-in-Next : goal.returns-in-Next
+unfolding looks_forward
+returns-in-Next c =
+    widen_own c.args.here _ c.requires
+    (kind_future c.args.here.record (λ d. looks_forward d ≡ true) refl refl c.in-Next.is)
 
-pub returns-then-kind-lt-PREVIOUS : goal.returns-then-kind-lt-PREVIOUS
-returns-then-kind-lt-PREVIOUS c =
-    widen_own _ _ c.requires (omega (arith, c.if-kind-ge-NEXT.true)) c.if-kind-lt-PREVIOUS.true
-
-pub returns-else-kind-lt-PREVIOUS : goal.returns-else-kind-lt-PREVIOUS
-returns-else-kind-lt-PREVIOUS c = widen_after _ _ c.requires c.if-kind-lt-PREVIOUS.false
-
-pub returns-else-kind-ge-NEXT : goal.returns-else-kind-ge-NEXT
-returns-else-kind-ge-NEXT c = widen_before _ _ c.requires (omega (arith, c.if-kind-ge-NEXT.false))
+pub returns-in_default : goal.returns-in_default
+returns-in_default c =
+    widen_kept c.args.here _ c.requires (looks_back c.args.here.record c.in_default.not-Next c.in_default.not-Until)

@@ -1,6 +1,5 @@
 -- `shape::wrong_rows` meets its contract: no record before `k` has a wrong row.
 use mathlib.Core.Path.{sym, ◌∙◌}
-use native.Mathlib.Omega.{arith}
 use borrow.Author.Count.{below_none, below_more}
 use borrow.Author.Rules.{rules}
 use Rattle.rewriting.proofs.TidyRows.{fitting}
@@ -9,10 +8,6 @@ use Rattle.rewriting.proofs.shape.wrong_rows.Goals as goal
 
 pub loop-k-init : goal.loop-k-init
 loop-k-init c = (search rules, search rules, before_none _, below_none _)
-
-pub here_at-here-requires : goal.here_at-here-requires
-here_at-here-requires c =
-    (c.requires.0, c.loop-k-test.true, c.loop-k.invariant.2)
 
 pub record_wrong-requires : goal.record_wrong-requires
 record_wrong-requires c =
@@ -23,13 +18,6 @@ pub returns-then-record_wrong : goal.returns-then-record_wrong
 returns-then-record_wrong c =
     rows_found c.args.list.now c.args.plan _ _ _ _ c.loop-k-test.true
     (c.record_wrong.ensures _ _ c.here_at-here.ensures.0) c.if-record_wrong.true
-
-pub widen-allowed-requires : goal.widen-allowed-requires
-widen-allowed-requires c = c.here_at-here.ensures.1
-
-pub overflow_add-first : goal.overflow_add-first
-overflow_add-first c =
-    let p = c.here_at-here.ensures.1 in omega (arith, p.few, p.within)
 
 pub loop-k-preserved : goal.loop-k-preserved
 loop-k-preserved c =

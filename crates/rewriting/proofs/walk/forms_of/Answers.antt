@@ -5,7 +5,7 @@ use borrow.Author.Rules.{rules}
 use Rattle.meaning.specs.Rule.{first_of}
 use Rattle.rewriting.proofs.Counting.{first_of_rule}
 use Rattle.rewriting.proofs.Tables.{forms_row}
-use Rattle.rewriting.proofs.Written.{wrote_none, wrote_more, wrote_all}
+use Rattle.rewriting.proofs.Written.{wrote_none, wrote_more}
 use Rattle.rewriting.proofs.Rules.{record_node, record_count}
 use Rattle.rewriting.proofs.walk.forms_of.Goals as goal
 
@@ -31,7 +31,3 @@ loop-k-preserved c =
           (forms_row a.m a.list.now a.records here.k _ _ _ _ _ less c.requires.2 p.1
           (record_node _ _ _ is) p.4 made),
     )
-
-pub returns : goal.returns
-returns c =
-    let p = c.loop-k.invariant in wrote_all _ _ _ _ _ _ p.4 p.0 c.loop-k-test.false

@@ -1,44 +1,24 @@
 -- `horizon::record_entry` goes by the kind of the record.
-use native.Mathlib.Omega.{arith}
 use Rattle.watcher.proofs.Horizons.{record_plain, record_next, record_until, record_previous, record_larger}
 use Rattle.watcher.proofs.horizon.record_entry.Goals as goal
 
-pub later-requires : goal.later-requires
-later-requires c = omega (arith, c.sides_of-sides.ensures.low)
+pub returns-in-Next-clause-same : goal.returns-in-Next-clause-same
+returns-in-Next-clause-same c =
+    record_next _ _ _ _ _ c.entry-left.ensures c.entry.ensures c.larger-both.ensures.same _ c.in-Next.is
+    c.later.ensures.same
 
-pub later-requires-in-7 : goal.later-requires-in-7
-later-requires-in-7 c = omega (arith, c.sides_of-sides.ensures.most)
+pub returns-in-Until-clause-same : goal.returns-in-Until-clause-same
+returns-in-Until-clause-same c =
+    record_until _ _ _ _ _ c.entry-left.ensures c.entry.ensures c.larger-both.ensures.same _ c.in-Until.is
+    c.later-in-Until.ensures.same
 
-pub returns-in-6 : goal.returns-in-6
-returns-in-6 c =
-    let a = c.args in
-    record_next a.«record» a.codes.now a.k _ c.sides_of-sides.ensures _ c.in-6.is
-    c.later.ensures.0 c.later.ensures.1
+pub returns-in-Previous-clause-same : goal.returns-in-Previous-clause-same
+returns-in-Previous-clause-same c =
+    record_previous _ _ _ _ _ c.entry-left.ensures c.entry.ensures c.larger-both.ensures.same c.in-Previous.is
 
-pub returns-in-7 : goal.returns-in-7
-returns-in-7 c =
-    let a = c.args in
-    record_until a.«record» a.codes.now a.k _ c.sides_of-sides.ensures _ c.in-7.is
-    c.later-in-7.ensures.0 c.later-in-7.ensures.1
+pub returns-in-True-clause-same : goal.returns-in-True-clause-same
+returns-in-True-clause-same c = record_plain _ _ c.in-True.is
 
-pub returns-in-8 : goal.returns-in-8
-returns-in-8 c =
-    let a = c.args in
-    record_previous a.«record» a.codes.now a.k _ c.sides_of-sides.ensures c.in-8.is
-
-pub returns-in-1 : goal.returns-in-1
-returns-in-1 c =
-    let a = c.args in
-    record_plain a.«record» a.codes.now a.k (omega arith) (omega arith)
-
-pub returns-in_default : goal.returns-in_default
-returns-in_default c =
-    let a = c.args in
-    record_larger a.«record» a.codes.now a.k _ c.sides_of-sides.ensures (λ h. omega arith) (λ h. omega arith)
-    (λ h. omega arith) (λ h. omega arith)
-
-pub returns-in_default-2 : goal.returns-in_default-2
-returns-in_default-2 c =
-    let a = c.args in
-    record_larger a.«record» a.codes.now a.k _ c.sides_of-sides.ensures (λ h. omega arith) (λ h. omega arith)
-    (λ h. omega arith) (λ h. omega arith)
+pub returns-in-And-clause-same : goal.returns-in-And-clause-same
+returns-in-And-clause-same c =
+    record_larger _ _ _ _ _ c.entry-left.ensures c.entry.ensures c.larger-both.ensures.same c.in-And.is

@@ -7,5 +7,5 @@ use Rattle.watcher.proofs.lists.many_parameters.Goals as goal
 
 pub returns : goal.returns
 returns c =
-    let few = records_few _ _ c.records_of-records.ensures c.requires in
-    parameters_all _ _ _ c.records_of-records.ensures (counts_all _ _ _ (omega arith) c.parameters_in.ensures)
+    let few = records_few _ _ c.records_of.ensures c.requires in
+    parameters_all _ _ _ c.records_of.ensures (counts_all _ _ _ (omega arith) c.parameters_in.ensures)

@@ -1,9 +1,15 @@
 -- `lists::names_right` meets its contract: a signal, or an earlier record.
-use Rattle.watcher.proofs.Checking.{names_signal, names_record}
+use mathlib.Core.Path.{refl}
+use borrow.Author.Tests.{ne_eqb}
+use Rattle.rewriting.specs.Decode.{kind_number}
+use Rattle.watcher.specs.Rules.{names_right}
+use Rattle.watcher.proofs.Checking.{no_signal}
 use Rattle.watcher.proofs.lists.names_right.Goals as goal
 
-pub returns-then-kind-eq-SIGNAL : goal.returns-then-kind-eq-SIGNAL
-returns-then-kind-eq-SIGNAL c = names_signal _ _ _ c.if-kind-eq-SIGNAL.true
+pub returns-in-Signal : goal.returns-in-Signal
+unfolding kind_number names_right
+returns-in-Signal c = rw c.in-Signal.is refl
 
-pub returns-else-kind-eq-SIGNAL : goal.returns-else-kind-eq-SIGNAL
-returns-else-kind-eq-SIGNAL c = names_record _ _ _ c.if-kind-eq-SIGNAL.false
+pub returns-in_default : goal.returns-in_default
+unfolding names_right
+returns-in_default c = rw (ne_eqb _ 3 (no_signal _ c.in_default.not-Signal)) refl

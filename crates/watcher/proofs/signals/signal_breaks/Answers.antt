@@ -1,7 +1,9 @@
--- `signal_breaks` leaves at the first test that fails, and looks at the last four bytes as a number.
-use mathlib.Core.Path.{ap, ◌∙◌}
+-- `signal_breaks` looks at the channel, at the sense, and then at the last four bytes as a number.
+use mathlib.Core.Path.{sym, ap, ◌∙◌}
 use mathlib.Core.Bool.{not}
+use mathlib.Core.Logic.{⊎_elim}
 use native.Mathlib.Omega.{arith}
+use borrow.Author.Tests.{lt-ltb}
 use lib.Dec.{eqb}
 use Rattle.rewriting.specs.Decode.{byte_of}
 use Rattle.watcher.specs.Rules.{records_of}
@@ -16,32 +18,19 @@ pub returns-then-channel-lt1 : goal.returns-then-channel-lt1
 returns-then-channel-lt1 c =
     let list = c.args.list.now in
     let k = c.args.k in
-    signal_low list k (omega (arith, first_byte list k))
-
-pub returns-then-channel-gt5 : goal.returns-then-channel-gt5
-returns-then-channel-gt5 c =
-    let list = c.args.list.now in
-    let k = c.args.k in
-    signal_high list k (omega (arith, first_byte list k))
-
-pub overflow_add-at : goal.overflow_add-at
-unfolding records_of
-overflow_add-at c = omega arith
+    let first = first_byte list k ∙ sym c.byte-channel.ensures in
+    ⊎_elim (λ w. signal_low list k (omega (arith, first))) (λ w. signal_high list k (omega (arith, first, w.1)))
+    c.then-channel-lt1.either
 
 pub returns-then-byte-gt1 : goal.returns-then-byte-gt1
 unfolding byte_of
 returns-then-byte-gt1 c =
-    let start = c.args in
-    signal_sense start.list.now start.k (omega arith)
+    lt-ltb _ _ c.if-byte-gt1.true ∙ signal_sense c.args.list.now c.args.k (omega arith)
 
-pub overflow_add-at-2 : goal.overflow_add-at-2
-unfolding records_of
-overflow_add-at-2 c = omega arith
-
-pub returns : goal.returns
+pub returns-else-byte-gt1 : goal.returns-else-byte-gt1
 unfolding byte_of
-returns c =
+returns-else-byte-gt1 c =
     let list = c.args.list.now in
     let k = c.args.k in
-    ap (λ x. not (eqb x 0)) c.four.ensures
+    ap (λ x. not (eqb x 0)) c.little.ensures
     ∙ signal_zeros list k (omega (arith, first_byte list k)) (omega (arith, first_byte list k)) (omega arith)

@@ -1,6 +1,6 @@
 -- `turns::begin_area` meets its contract: the plan is that of the rule list.
 use native.Mathlib.Omega.{arith}
-use Rattle.watcher.proofs.Turning.{plan_listed, sound_as, plan_records, plan_room, begun_as}
+use Rattle.watcher.proofs.Turning.{plan_listed, sound_as, plan_records, plan_room}
 use Rattle.watcher.proofs.turns.begin_area.Goals as goal
 
 pub plan_for-plan-requires : goal.plan_for-plan-requires
@@ -20,8 +20,3 @@ begin-requires c =
       c.table_for-table.ensures,
       plan_room _ c.args.area.now _ _ c.plan_for-plan.ensures p.2,
     )
-
-pub returns : goal.returns
-returns c =
-    begun_as _ _ _ (plan_listed _ _ _ c.records_of.ensures c.plan_for-plan.ensures)
-    c.begin.ensures

@@ -6,4 +6,4 @@ use Rattle.watcher.proofs.turns.report_on.Goals as goal
 pub returns : goal.returns
 unfolding report_of
 returns c m s few e =
-    let says = word_on _ _ _ c.load.ensures c.word_of-word.ensures m s few e in cc
+    let says = word_on _ _ _ c.load.ensures c.word_of.ensures m s few e in cc

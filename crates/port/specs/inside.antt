@@ -1,2 +1,0 @@
--- What the functions inside the crate say. Nobody outside has to believe it.
-pub mod Steps
