@@ -30,15 +30,11 @@ use Rattle.forms.proofs.Making.{negated_row}
 use Rattle.forms.proofs.Reading.{read_constant, read_parameter}
 use Rattle.forms.proofs.Areas.{row_put, row_kept}
 
--- no row there, and one
+-- no row there
 pub row_none : (ws : List ℕ) (base count j : ℕ) → count ≤ j → OfRow ws base count j (replicate 64 0)
 row_none ws base count j h m rows holds =
     let past : length rows ≤ j = omega (arith, holds.long) in
     pack_false m ∙ ap (pack m) (sym (get_or-eq_default rows (constant m false) past))
-
-pub row_here : (ws : List ℕ) (base count j : ℕ) (r : List ℕ) → j < count → r ≡ row_at ws (base + j)
-    → OfRow ws base count j r
-row_here ws base count j r h e m rows holds = e ∙ holds.row j h
 
 -- the table of a row that is not named, and of one that is
 pub table_none : (ws : List ℕ) (base count named j : ℕ) → named / 2 ^ j % 2 ≡ 0

@@ -3,6 +3,27 @@ ghost use Rattle.std.specs.Prelude.{◌≡◌, ◌+◌, ◌*◌, min};
 ghost use Rattle.forms.specs.Area.{row_at};
 ghost use Rattle.forms.specs.Clauses.{LoadClause, RowOfClause, StoreClause, ClearClause};
 
+// The count rows of an area from base on.
+#[derive(Clone, Copy)]
+pub struct Rows<'a> {
+    pub area: &'a [u64],
+    pub base: usize,
+    pub count: usize,
+}
+
+impl<'a> Rows<'a> {
+    // Row j of these; false from count on.
+    pub fn row(self, j: usize) -> [u64; 64]
+        ensures { RowOfClause self.entry.area.now self.entry.base self.entry.count j result }
+    {
+        if j < self.count {
+            row_from(self.area, self.base, j)
+        } else {
+            [0; 64]
+        }
+    }
+}
+
 // The word at which the count rows from base on end, or the area's end where that comes first.
 fn edge(len: usize, base: usize, count: usize) -> usize
     ensures { result ≡ min len (64 * (base + count)) }
@@ -26,17 +47,6 @@ pub fn load(area: &[u64], place: usize) -> [u64; 64]
     ensures { LoadClause area.now place result }
 {
     row_from(area, place, 0)
-}
-
-// Row j of the count rows from base on; false from count on.
-pub fn row_of(area: &[u64], base: usize, count: usize, j: usize) -> [u64; 64]
-    ensures { RowOfClause area.now base count j result }
-{
-    if j < count {
-        row_from(area, base, j)
-    } else {
-        [0; 64]
-    }
 }
 
 // A row, put at a place; nothing is written past the area's end.

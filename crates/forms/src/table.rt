@@ -7,7 +7,7 @@ ghost use Rattle.forms.specs.Rows.{WithRows};
 ghost use Rattle.forms.specs.inside.Steps.{PassedWord, Passed, Mixed, PutTerms, TableOf, TablesOf};
 ghost use Rattle.forms.specs.Clauses.{PutInClause, ValueClause};
 
-use crate::area::{row_of, store};
+use crate::area::{Rows, store};
 use crate::rows::names;
 use crate::scan::{lone, next_term};
 use std::array;
@@ -90,52 +90,52 @@ fn put_terms(row: &[u64; 64], tables: &[u64; 768], p: usize, k: usize) -> [u64; 
     mix(a, tables, q, b)
 }
 
-// The truth values of row j of the count rows from base on, and of false where bit j of the mask is not set.
-fn table_at(area: &[u64], base: usize, count: usize, named: usize, j: usize) -> [u64; 64]
+// The truth values of row j of the rows, and of false where bit j of the mask is not set.
+fn table_at(rows: Rows<'_>, named: usize, j: usize) -> [u64; 64]
     requires { j < 12 }
-    ensures { TableOf area.now base count named j result }
+    ensures { TableOf rows.entry.area.now rows.entry.base rows.entry.count named j result }
 {
     if (named >> j) % 2 == 0 {
         return [0; 64];
     }
-    truth_of(row_of(area, base, count, j))
+    truth_of(rows.row(j))
 }
 
-// The truth values of the first twelve of the count rows from base on, and of false for those that are not named.
-fn tables(area: &[u64], base: usize, count: usize, named: usize) -> [u64; 768]
-    ensures { TablesOf area.now base count named result }
+// The truth values of the first twelve of the rows, and of false for those that are not named.
+fn tables(rows: Rows<'_>, named: usize) -> [u64; 768]
+    ensures { TablesOf rows.entry.area.now rows.entry.base rows.entry.count named result }
 {
     let mut ts = [0; 768];
     for j in 0..12 {
-        let t = table_at(area, base, count, named, j);
+        let t = table_at(rows, named, j);
         store(&mut ts, j, t);
     }
     ts
 }
 
 // What `put_in` makes, by truth values, whatever the row's form is: only the rows that it names matter.
-fn put_by_values(row: [u64; 64], area: &[u64], base: usize, count: usize) -> [u64; 64]
-    ensures { WithRows row area.now base count result }
+fn put_by_values(row: [u64; 64], rows: Rows<'_>) -> [u64; 64]
+    ensures { WithRows row rows.entry.area.now rows.entry.base rows.entry.count result }
 {
-    let ts = tables(area, base, count, names(row));
+    let ts = tables(rows, names(row));
     let v = put_terms(&row, &ts, 12, 0);
     truth_of(v)
 }
 
-// The row's form with the count rows of the area from base on put in for its parameters, and false for the others.
-pub fn put_in(row: [u64; 64], area: &[u64], base: usize, count: usize) -> [u64; 64]
-    ensures { PutInClause row area.now base count result }
+// The row's form with the rows put in for its parameters, and false for the others.
+pub fn put_in(row: [u64; 64], rows: Rows<'_>) -> [u64; 64]
+    ensures { PutInClause row rows.entry.area.now rows.entry.base rows.entry.count result }
 {
     // A constant stays, and a parameter is the row put in for it, negated or not: most calls need no truth values.
     if next_term(&row, 1, 4096).is_none() {
         return row;
     }
     if let Some(p) = lone(&row) {
-        let mut r = row_of(area, base, count, p);
+        let mut r = rows.row(p);
         r[0] ^= row[0] % 2;
         return r;
     }
-    put_by_values(row, area, base, count)
+    put_by_values(row, rows)
 }
 
 // The value of the row's form where parameter j is true exactly if bit j of the setting is set.

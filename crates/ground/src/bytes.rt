@@ -12,6 +12,7 @@ pub fn byte(bytes: &[u8], at: usize) -> u8
 pub fn little<const N: usize>(bytes: &[u8], at: usize) -> u64
     ensures { LittleClause N bytes.now at result }
 {
+    // Past the list's end there is nothing to add to `at`.
     if bytes.len() <= at {
         return 0;
     }

@@ -16,7 +16,8 @@ pub struct Opened {
     pub length: usize,
 }
 
-// What feeding hands back: the next state, and how many bytes its line has.
+// What feeding hands back: the next state, and how many bytes its line has. The buffer is the caller's, so the length
+// stays a number beside it.
 #[derive(Clone, Copy)]
 pub struct Turn {
     pub next: Watcher,

@@ -1,4 +1,4 @@
-// The codes of answers.
+// The codes of answers. They stay numbers, and have a function each for words and tests: C is handed them.
 ghost use Rattle.std.specs.Prelude.{◌≡◌};
 ghost use Rattle.watcher.specs.Numbers.{refusal_number, horizon_for};
 ghost use Rattle.port.specs.Codes.{word_code, test_code, found_code, told_of, told_at, told_code, horizon_code};

@@ -36,7 +36,7 @@ fn list_at(bytes: &[u8], place: usize) -> [u8; Watcher::LIST_BYTES]
     list
 }
 
-// The phase with a number up to 3.
+// The phase with a number up to 3. It is no From: neither type is of this crate, and C keeps the number.
 #[tactic(auto, unfolding(crate::specs::Layout::phase_with))]
 fn phase_with(number: u8, time: u32, signals: u16) -> Phase
     ensures { result ≡ phase_with number time signals }
@@ -49,7 +49,7 @@ fn phase_with(number: u8, time: u32, signals: u16) -> Phase
     }
 }
 
-// The state that bytes hold.
+// The state that bytes hold. That they are as many as a state has stays a clause: C lends a slice.
 pub(crate) fn read_state(bytes: &[u8]) -> Watcher
     requires { length bytes.now ≡ state_bytes }
     ensures { result ≡ state_in bytes.now }

@@ -1,4 +1,5 @@
-// The exports for C and Rust: each is the function of `port` with its name and its clause.
+// The exports for C and Rust: each is the function of `port` with its name and its clause, since a crate is a library
+// or one for C.
 #![tactic(auto)]
 
 ghost use Rattle.port.specs.Clauses.{StartClause, WouldRefuseClause, FeedClause, AskClause};

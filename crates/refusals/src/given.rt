@@ -1,4 +1,5 @@
-// What the states are made from: two rules, a list of two signals, records, and watchers on them.
+// What the states are made from: two rules, a list of two signals, records, and watchers on them. They stay bytes,
+// where `examples` makes its rules of types: a damaged state is told byte by byte.
 use watcher::state::Watcher;
 
 // Rule A: signal 0 until signal 1, from 0 to 2. It has five parameters: two signals, and the until's three shifts.

@@ -16,6 +16,7 @@ use Rattle.ground.specs.Bits.{bit}
 use Rattle.ground.proofs.Bits.{bit_or_lem, bit_pow, one_shl}
 use Rattle.forms.specs.Form.{Form, constant, value}
 use Rattle.forms.specs.Area.{form_in}
+use Rattle.forms.specs.declared.area.Rows.{Rows}
 use Rattle.forms.proofs.Values.{value_constant}
 use Rattle.meaning.specs.Rule.{Node}
 use Rattle.meaning.specs.Rewriting.{derived_row}
@@ -105,16 +106,16 @@ module _ (m : ℕ) where
       (settled_one (rows ++ tab n g) (o + n) setting r (g n) b (length_block rows g n o l) s e w)
 
 -- a record's shifts: none, one more, and all of them
-module _ (step : Step) (fs : List ℕ) (k : ℕ) (ws : List ℕ) (setting : ℕ) where
-  pub ends_none : OfEnds step 0 fs k ws setting setting
+module _ (step : Step) (before held : Rows) (setting : ℕ) where
+  pub ends_none : OfEnds step 0 before held setting setting
   ends_none past forms derived alone hp hf hl hs =
       settled_none step.m derived (made_of Derived step derived past forms (node_for step.record)) setting hs
 
-  pub ends_more : (grown n r : ℕ) (b : Bool) → OfEnds step n fs k ws setting grown
-      → (turn : Step) (byte : n < 256) → turn ≡ at_shift step n byte → OfEnd turn fs k ws setting b
-      → ((t : ℕ) → bit r t ≡ (bit grown t || (b && eqb (step.first + n) t))) → OfEnds step (n + 1) fs k ws setting r
+  pub ends_more : (grown n r : ℕ) (b : Bool) → OfEnds step n before held setting grown
+      → (turn : Step) (byte : n < 256) → turn ≡ at_shift step n byte → OfEnd turn before held setting b
+      → ((t : ℕ) → bit r t ≡ (bit grown t || (b && eqb (step.first + n) t))) → OfEnds step (n + 1) before held setting r
   unfolding made_of entry_in
   ends_more grown n r b old turn byte is new w past forms derived alone hp hf hl hs =
       settled_more step.m derived (made_of Derived step derived past forms (node_for step.record)) step.first
       n grown r b hl (old past forms derived alone hp hf hl hs)
-      (subst (λ s. OfEnd s fs k ws setting b) is new past forms derived alone hp hf hs) w
+      (subst (λ s. OfEnd s before held setting b) is new past forms derived alone hp hf hs) w

@@ -5,13 +5,13 @@ use mathlib.Core.Bool.{Bool}
 use mathlib.Core.List.{List, ◌++◌}
 use Prim.Native.Nat.{ℕ, ◌+◌, ◌<◌, ◌≤◌}
 use native.Mathlib.Numerals.{add-one}
-use native.Mathlib.Omega.{arith}
 use lib.ListN.{length}
 use Rattle.ground.specs.Fold.{tab}
 use Rattle.ground.specs.Bits.{bit}
 use Rattle.ground.proofs.Bits.{bit_zero}
 use Rattle.forms.specs.Form.{constant, value}
 use Rattle.forms.specs.Area.{form_in}
+use Rattle.forms.specs.declared.area.Rows.{Rows}
 use Rattle.meaning.specs.Rule.{count, first_of}
 use Rattle.meaning.specs.Rewriting.{none, forms_of, derived_row, derived_rows}
 use Rattle.meaning.specs.Words.{value_if_last}
@@ -23,13 +23,11 @@ use Rattle.rewriting.specs.declared.step.Moment.{Moment}
 use Rattle.std.specs.Prelude.{None}
 use Rattle.rewriting.specs.Decode.{node_in, node_for, record_in}
 use Rattle.rewriting.specs.Known.{past_in, known_in, form_at}
-use Rattle.rewriting.specs.Plans.{rule_for, entry_for, read_in, Ready}
-use Rattle.rewriting.specs.inside.Steps.{entry_in, row_by, made_of}
+use Rattle.rewriting.specs.Plans.{rule_for, entry_for, read_in}
+use Rattle.rewriting.specs.inside.Steps.{Are, entry_in, row_by, made_of}
 use Rattle.rewriting.specs.inside.Walks.{step_in}
 use Rattle.rewriting.specs.inside.Endings.{Settled, OfEnds, last_rows}
 use Rattle.rewriting.proofs.Rules.{length_rule_in, node_in_lem, record_node}
-use Rattle.rewriting.proofs.Placed.{tidy_held}
-use Rattle.rewriting.proofs.Tables.{forms_held}
 
 -- the derived rows of one record more
 last_rows_more : (list : List ℕ) (plan : Plan) (last : Moment) (ws : List ℕ) (k : ℕ) → k < plan.records
@@ -54,14 +52,15 @@ module _ (list : List ℕ) (plan : Plan) (last : Moment) (ws : List ℕ) where
   unfolding last_rows derived_rows
   last_none j = ap (constant plan.m) (sym (bit_zero j))
 
-  pub last_more : (fs : List ℕ) → Ready list plan fs ws → (k first c setting r : ℕ) (step : Step)
+  pub last_more : (k : ℕ) (before held : Rows) → Are plan.m before (forms_of plan.m (rule_for list plan) k)
+      → Are plan.m held (past_in plan.m ws) → (first c setting r : ℕ) (step : Step)
       → k < plan.records → first ≡ first_of (rule_for list plan) k → c ≡ count (node_in list k)
       → (few : plan.m ≤ 12) (within : first ≤ 12)
       → step ≡ step_in list k first plan.m last None few within
       → Settled plan.m (last_rows list plan last ws k) setting
-      → OfEnds step c fs k ws setting r → Settled plan.m (last_rows list plan last ws (k + 1)) r
+      → OfEnds step c before held setting r → Settled plan.m (last_rows list plan last ws (k + 1)) r
   unfolding made_of row_by entry_in
-  last_more fs ready k first c setting r step h e q few within is s ends =
+  last_more k before held hf hp first c setting r step h e q few within is s ends =
       let m = plan.m in
       let rule = rule_for list plan in
       let rows = last_rows list plan last ws k in
@@ -73,9 +72,7 @@ module _ (list : List ℕ) (plan : Plan) (last : Moment) (ws : List ℕ) where
       ∙ ap₂ (λ i x. rows ++ tab (count (node_in list k)) (derived_row m past forms rows (entry_for last) none i x)) e
       (record_node list k d refl)
       ∙ sym (last_rows_more list plan last ws k h))
-      (subst (λ x. OfEnds x c fs k ws setting r) is ends past forms rows refl
-      (tidy_held plan.places m ws ready.2 ready.0.few)
-      (forms_held m rule k plan.records fs (omega arith) ready.1)
+      (subst (λ x. OfEnds x c before held setting r) is ends past forms rows refl hp hf
       (length_last_rows list plan last ws k ∙ sym e) s)
 
 -- the remainder's value under that setting

@@ -5,14 +5,19 @@ use mathlib.Core.Bool.{Bool}
 use mathlib.Core.List.{List}
 use Prim.Native.Nat.{ℕ}
 use Rattle.ground.proofs.OnlyOne.{only_one}
+use Rattle.rewriting.specs.declared.kind.Kind.{Kind}
 use Rattle.rewriting.specs.declared.step.Interval.{Interval}
 use Rattle.rewriting.specs.declared.step.Record.{Record}
 use Rattle.rewriting.specs.declared.step.Plan.{Plan}
 use Rattle.rewriting.specs.declared.step.Moment.{Moment}
-use Rattle.rewriting.specs.Clauses.{ByteOfClause, RecordAtClause, EndlessClause, CountOfClause}
+use Rattle.rewriting.specs.Clauses.{KindClause, ByteOfClause, RecordAtClause, EndlessClause, CountOfClause}
 use Rattle.rewriting.specs.Clauses.{ParametersInClause, SignalClause, FormsOfClause, FirstClause, FeedClause}
 use Rattle.rewriting.specs.Clauses.{ValueIfLastClause, CloseClause, BeginClause}
 use Rattle.rewriting.specs.Clauses.{BitsAboveClause, NotZeroFromClause, WrongRowsClause}
+
+-- the kind that a byte is
+pub only_kind : (byte : ℕ) (o o' : Kind) → KindClause byte o → KindClause byte o' → o ≡ o'
+only_kind byte = only_one _
 
 -- what is read of a rule list
 module _ (list : List ℕ) (k : ℕ) where

@@ -6,7 +6,7 @@ use mathlib.Core.List.{List}
 use Prim.Native.Nat.{ℕ, suc, ◌*◌, ◌≤◌, ◌<◌}
 use native.Mathlib.Omega.{arith}
 use lib.ListN.{length}
-use Rattle.forms.specs.Form.{constant}
+use Rattle.forms.specs.Form.{Form, constant}
 use Rattle.forms.specs.Words.{pack}
 use Rattle.forms.specs.Area.{put_rows, form_in, Holds}
 use Rattle.meaning.specs.Rule.{Node, node_at, first_of}
@@ -15,7 +15,6 @@ use Rattle.meaning.proofs.Blocks.{one_new, length_forms_of}
 use Rattle.meaning.proofs.Whole.{forms_whole}
 use Rattle.rewriting.specs.declared.step.Record.{Record}
 use Rattle.rewriting.specs.Decode.{node_in, rule_in, node_for}
-use Rattle.rewriting.specs.inside.Steps.{OfRecord}
 use Rattle.rewriting.specs.Plans.{form_row, table_with}
 use Rattle.rewriting.proofs.Rules.{node_in_lem}
 use Rattle.rewriting.proofs.Written.{held_put}
@@ -42,7 +41,8 @@ module _ (m : ℕ) (rule : List Node) where
 -- the row of record k's form, from the table of the forms before it
 pub forms_row : (m : ℕ) (list : List ℕ) (records k first : ℕ) (ws table row : List ℕ) (d : Record) → k < records
     → 64 * records ≤ length ws → first ≡ first_of (rule_in list records) k → node_for d ≡ node_in list k
-    → table ≡ put_rows ws 0 k (form_row m (forms_of m (rule_in list records) records)) → OfRecord d first m table k row
+    → table ≡ put_rows ws 0 k (form_row m (forms_of m (rule_in list records) records))
+    → ((forms : List (Form m)) → Holds m table 0 k forms → row ≡ pack m (form_of m forms first (node_for d)))
     → row ≡ form_row m (forms_of m (rule_in list records) records) k
 unfolding form_row
 forms_row m list records k first ws table row d h room e n w made =

@@ -9,6 +9,7 @@ use lib.ListN.{length}
 use Rattle.forms.specs.Form.{Form}
 use Rattle.forms.specs.Words.{pack}
 use Rattle.forms.specs.Area.{put_rows, Holds}
+use Rattle.forms.specs.declared.area.Rows.{Rows}
 use Rattle.meaning.specs.Rule.{node_at, count, first_of}
 use Rattle.meaning.specs.Rewriting.{forms_of}
 use Rattle.meaning.proofs.Blocks.{first_of_fits}
@@ -19,13 +20,12 @@ use Rattle.rewriting.specs.declared.step.Plan.{Plan}
 use Rattle.rewriting.specs.declared.step.Moment.{Moment}
 use Rattle.rewriting.specs.Decode.{node_in, node_for, record_in}
 use Rattle.rewriting.specs.Known.{words_for}
-use Rattle.rewriting.specs.Plans.{rule_for, entry_for, Sound, HoldsForms, form_row}
-use Rattle.rewriting.specs.inside.Steps.{neighbour_of, entry_in, own_at, other_at, row_by, made_of}
+use Rattle.rewriting.specs.Plans.{rule_for, entry_for, Sound, form_row}
+use Rattle.rewriting.specs.inside.Steps.{Are, neighbour_of, entry_in, own_at, other_at, row_by, made_of}
 use Rattle.rewriting.specs.inside.Walks.{step_in, Apart, made_row, Puts, table_of, rows_for}
 use Rattle.rewriting.proofs.Counting.{first_of_rule, parameters_done}
 use Rattle.rewriting.proofs.Making.{own_room, rows_apart, length_table, table_more, table_made}
 use Rattle.rewriting.proofs.Rules.{node_in_lem, record_node, record_count}
-use Rattle.rewriting.proofs.Tables.{forms_held}
 use Rattle.rewriting.proofs.Written.{wrote_block, held_put, held_kept}
 
 -- a plan's parameters, and the first of a record, are among those of a row
@@ -77,17 +77,17 @@ module _ (list : List ℕ) (plan : Plan) (sound : Sound list plan) (k first c : 
         })
 
     -- the rows of record k
-    pub rows_block : (row : Row) (held : ℕ) (other : List (Form plan.m)) (fs ws area next : List ℕ)
-        → HoldsForms list plan fs → length ws ≡ words_for plan.places → held ≤ plan.m
+    pub rows_block : (row : Row) (held : ℕ) (other : List (Form plan.m)) (before : Rows) (ws area next : List ℕ)
+        → Are plan.m before (forms_of plan.m (rule_for list plan) k) → length ws ≡ words_for plan.places → held ≤ plan.m
         → Holds plan.m ws (other_at row (plan.places + 1)) held other
         → area
         ≡ put_rows ws (own_at row (plan.places + 1)) first (form_row plan.m (rows_for row list plan here near other))
-        → Puts row step c fs k area (plan.places + 1) held next
+        → Puts row step c before area (plan.places + 1) held next
         → next
         ≡ put_rows ws (own_at row (plan.places + 1)) (first + c)
         (form_row plan.m (rows_for row list plan here near other))
     unfolding form_row made_row made_of entry_in words_for
-    rows_block row held other fs ws area next hf long few ho w puts =
+    rows_block row held other before ws area next hf long few ho w puts =
         let m : ℕ = plan.m in
         let rule = rule_for list plan in
         let scratch : ℕ = plan.places + 1 in
@@ -99,7 +99,7 @@ module _ (list : List ℕ) (plan : Plan) (sound : Sound list plan) (k first c : 
         let rows : ℕ → List ℕ = form_row m (rows_for row list plan here near other) in
         let made = made_row row (step_in list k first m here near narrow within) own other forms in
         wrote_block ws base rows first c (base + first) made area next w refl
-        (subst (λ s. Puts row s c fs k area scratch held next) is puts own other forms
+        (subst (λ s. Puts row s c before area scratch held next) is puts own other forms
         (record {
           mine =
               held_put m ws base first own rows area w (length_table row m rule other e nb k ∙ sym begins)
@@ -113,7 +113,7 @@ module _ (list : List ℕ) (plan : Plan) (sound : Sound list plan) (k first c : 
               (omega (arith, block_fits, sound.few)))
               ho;
         })
-        (forms_held m rule k plan.records fs (omega arith) hf))
+        hf)
         (λ i l.
         ap₂ (λ x y. pack m (row_by row m own other forms e nb x y i)) begins node_is
         ∙ ap (pack m) (sym (table_made row m rule other e nb k plan.records i less (omega (arith, count_is))))

@@ -1,17 +1,22 @@
 -- The clause of each public function: of what is handed in, and the answer with the lent list at exit. What `forms`,
--- the table of the rule's forms, must hold is asked for (`Plans.antt`, `HoldsForms`).
+-- the table of the rule's forms, must hold is kept by its type (`Plans.antt`, `HoldsForms`; `src/rule.rt`, `Tabled`).
 use Rattle.std.specs.Prelude.{◌≡◌, Bool, List, [], ℕ, ◌≤◌, min}
 use Rattle.ground.specs.Bits.{bit}
 use Rattle.meaning.specs.Rule.{count, parameters}
 use Rattle.meaning.specs.Words.{start, value_if_last}
+use Rattle.rewriting.specs.declared.kind.Kind.{Kind}
 use Rattle.rewriting.specs.declared.step.Interval.{Interval}
 use Rattle.rewriting.specs.declared.step.Record.{Record}
 use Rattle.rewriting.specs.declared.step.Plan.{Plan}
 use Rattle.rewriting.specs.declared.step.Moment.{Moment}
-use Rattle.rewriting.specs.Decode.{byte_of, endless, record_in, node_for, rule_in}
+use Rattle.rewriting.specs.Decode.{kind_of, byte_of, endless, record_in, node_for, rule_in}
 use Rattle.rewriting.specs.Known.{past_in, area_of}
 use Rattle.rewriting.specs.Plans.{table_with, rule_for, entry_for, read_in, left_with, fed_with, closed_with}
 use Rattle.rewriting.specs.Shape.{bits_above, not_zero_from, wrong_rows}
+
+-- the kind that a byte is
+abbrev pub KindClause : (byte : ℕ) → Kind → Type 0
+KindClause byte o = o ≡ kind_of byte
 
 -- byte i of record k
 abbrev pub ByteOfClause : (list : List ℕ) (k i : ℕ) → ℕ → Type 0

@@ -50,7 +50,8 @@ HoldsForms list plan table =
 abbrev pub closed_with : Plan → Bool → List ℕ → List ℕ
 closed_with plan b ws = area_of plan.places plan.m (past_in plan.m ws) (constant plan.m b)
 
--- what the functions on an area ask for: a sound plan, the table of its forms, and a tidy area
+-- what the functions on an area stand on: a sound plan and the table of its forms, which `Tabled` keeps, and a tidy
+-- area
 abbrev pub Ready : (list : List ℕ) → Plan → (table ws : List ℕ) → Type 0
 Ready list plan table ws = Sound list plan × HoldsForms list plan table × Tidy plan.places plan.m ws
 

@@ -2,32 +2,29 @@
 ghost use Rattle.std.specs.Prelude.{◌≡◌, ◌&&◌, ◌||◌, ℕ, ◌+◌, ◌≤◌, ◌<◌, eqb, length};
 ghost use Rattle.ground.specs.Bits.{bit};
 ghost use Rattle.rewriting.specs.Known.{words_for, Tidy};
-ghost use Rattle.rewriting.specs.Plans.{Sound, HoldsForms, Ready};
 ghost use Rattle.rewriting.specs.inside.Endings.{Settled, last_rows, OfEnd, OfEnds};
 ghost use Rattle.rewriting.specs.Clauses.{ValueIfLastClause, CloseClause, BeginClause};
 
 use crate::kind::Kind;
 use crate::parts::signal;
-use crate::rule::count_of;
+use crate::rule::{Tabled, count_of};
 use crate::step::{Moment, Plan, Step};
 use crate::walk::step_at;
-use forms::area::{clear, load, row_of, store};
+use forms::area::{Rows, clear, load, store};
 use forms::rows::constant;
 use forms::table::value;
 
 // The value of a record's shift at the end, from a setting that has those of the records before.
-fn end_value(step: Step, forms: &[u64], k: usize, area: &[u64], setting: usize) -> bool
-    ensures { OfEnd step forms.now k area.now setting result }
+fn end_value(step: Step, forms: Rows<'_>, past: Rows<'_>, setting: usize) -> bool
+    ensures { OfEnd step forms.entry past.entry setting result }
 {
     let record = step.record;
     match record.kind {
         Kind::True | Kind::False | Kind::And | Kind::Xor | Kind::Next => false,
         Kind::Signal => signal(step.signals, record.left),
-        Kind::Until => {
-            step.sees_itself() && value(row_of(forms, 0, k, record.right as usize), setting)
-        }
+        Kind::Until => step.sees_itself() && value(forms.row(record.right as usize), setting),
         Kind::Previous | Kind::Since | Kind::Other(_) => {
-            value(row_of(area, 0, step.m, step.first + step.shift), setting)
+            value(past.row(step.first + step.shift), setting)
         }
     }
 }
@@ -40,21 +37,14 @@ fn with_value(setting: usize, p: usize, b: bool) -> usize
     if b { setting | (1 << p) } else { setting }
 }
 
-// The setting with the values of the first count shifts of record k at the end.
-fn end_values(
-    step: Step,
-    count: usize,
-    forms: &[u64],
-    k: usize,
-    area: &[u64],
-    setting: usize,
-) -> usize
+// The setting with the values of the first count shifts of a record at the end.
+fn end_values(step: Step, count: usize, forms: Rows<'_>, past: Rows<'_>, setting: usize) -> usize
     requires { step.first + count ≤ 64 }
-    ensures { OfEnds step count forms.now k area.now setting result }
+    ensures { OfEnds step count forms.entry past.entry setting result }
 {
     let mut grown = setting;
     for n in 0..count {
-        let b = end_value(step.at_shift(n), forms, k, area, setting);
+        let b = end_value(step.at_shift(n), forms, past, setting);
         grown = with_value(grown, step.first + n, b);
     }
     grown
@@ -62,29 +52,41 @@ fn end_values(
 
 // The setting of a rule's parameters, were this the last record. It counts along where they begin, as the loops of
 // `walk` do.
-fn last_setting(list: &[u8], plan: Plan, last: Moment, forms: &[u64], area: &[u64]) -> usize
-    requires { Ready list.now plan forms.now area.now }
-    ensures { Settled plan.m (last_rows list.now plan last area.now plan.records)
-        result }
+fn last_setting(tabled: Tabled<'_, '_>, last: Moment, area: &[u64]) -> usize
+    requires { Tidy tabled.rule.plan.places tabled.rule.plan.m area.now }
+    ensures { let rule = tabled.entry.rule in
+        Settled rule.plan.m (last_rows rule.list.now rule.plan last area.now rule.plan.records) result }
 {
+    let plan = tabled.rule.plan;
+    let past = Rows {
+        area,
+        base: 0,
+        count: plan.m,
+    };
     let mut setting: usize = 0;
     let mut first: usize = 0;
     for k in 0..plan.records {
-        let step = step_at(list, k, first, plan.m, last, None);
+        let step = step_at(tabled.rule.list, k, first, plan.m, last, None);
         let count = count_of(step.record);
-        setting = end_values(step, count, forms, k, area, setting);
+        let before = Rows {
+            area: tabled.forms,
+            base: 0,
+            count: k,
+        };
+        setting = end_values(step, count, before, past, setting);
         first += count;
     }
     setting
 }
 
 // The value were this the last record.
-pub fn value_if_last(list: &[u8], plan: Plan, last: Moment, forms: &[u64], area: &[u64]) -> bool
-    requires { Ready list.now plan forms.now area.now }
-    ensures { ValueIfLastClause list.now plan last forms.now area.now result }
+pub fn value_if_last(tabled: Tabled<'_, '_>, last: Moment, area: &[u64]) -> bool
+    requires { Tidy tabled.rule.plan.places tabled.rule.plan.m area.now }
+    ensures { ValueIfLastClause tabled.entry.rule.list.now tabled.entry.rule.plan last tabled.entry.forms.now area.now
+        result }
 {
-    let setting = last_setting(list, plan, last, forms, area);
-    value(load(area, plan.places), setting)
+    let setting = last_setting(tabled, last, area);
+    value(load(area, tabled.rule.plan.places), setting)
 }
 
 // Closing with a value: the past rows stay, and the remainder is that constant.
@@ -98,17 +100,17 @@ pub fn close(plan: Plan, b: bool, area: &mut [u64])
 }
 
 // The area at start: past rows zero, the remainder is the rule's form.
-pub fn begin(list: &[u8], plan: Plan, forms: &[u64], area: &mut [u64])
-    requires { Sound list.now plan × HoldsForms list.now plan forms.now
-        × (length area.old ≡ words_for plan.places) }
-    ensures { BeginClause list.now plan forms.now area.old
-        area.new }
+pub fn begin(tabled: Tabled<'_, '_>, area: &mut [u64])
+    requires { length area.old ≡ words_for tabled.rule.plan.places }
+    ensures { BeginClause tabled.entry.rule.list.now tabled.entry.rule.plan tabled.entry.forms.now area.old area.new }
 {
+    let plan = tabled.rule.plan;
     clear(area, 0, plan.places);
-    store(
-        area,
-        plan.places,
-        row_of(forms, 0, plan.records, plan.records - 1),
-    );
+    let rows = Rows {
+        area: tabled.forms,
+        base: 0,
+        count: plan.records,
+    };
+    store(area, plan.places, rows.row(plan.records - 1));
     clear(area, plan.places + 1, plan.places + 1);
 }

@@ -1,6 +1,5 @@
 // The kinds of a rule's records, as the rule list has them.
-ghost use Rattle.std.specs.Prelude.{◌≡◌};
-ghost use Rattle.rewriting.specs.Decode.{kind_of};
+ghost use Rattle.rewriting.specs.Clauses.{KindClause};
 
 #[derive(Clone, Copy, Debug, PartialEq, Eq)]
 pub enum Kind {
@@ -18,7 +17,7 @@ pub enum Kind {
 }
 
 impl From<u8> for Kind {
-    ghost from_gives = { λ byte kind. kind ≡ kind_of byte };
+    ghost from_gives = { KindClause };
 
     #[tactic(auto, unfolding(crate::specs::Decode::kind_of))]
     fn from(byte: u8) -> Kind {

@@ -1,15 +1,32 @@
-// The records of a rule list, and how many parameters its rule has.
+// A rule, the records of its list, and how many parameters it has.
+ghost use Rattle.rewriting.specs.Plans.{Sound, HoldsForms};
 ghost use Rattle.rewriting.specs.Clauses.{ByteOfClause, RecordAtClause, CountOfClause, ParametersInClause};
 
 use crate::interval::shifts;
 use crate::kind::Kind;
-use crate::step::{Interval, Record};
+use crate::step::{Interval, Plan, Record};
 
 // Bytes of a record.
 pub const RECORD_BYTES: usize = 8;
 
 // Records of a rule, at most.
 const RECORDS: usize = 64;
+
+// A rule: its list, and a sound plan of it.
+#[derive(Clone, Copy)]
+pub struct Rule<'a> {
+    pub list: &'a [u8],
+    pub plan: Plan,
+    pub ghost sound: { Sound list.now plan },
+}
+
+// A rule with the table of its records' forms.
+#[derive(Clone, Copy)]
+pub struct Tabled<'list, 'forms> {
+    pub rule: Rule<'list>,
+    pub forms: &'forms [u64],
+    pub ghost holds: { HoldsForms rule.list.now rule.plan forms.now },
+}
 
 // Byte `i` of record `k`; zero past the list's end.
 #[tactic(auto, unfolding(crate::specs::Decode::byte_of))]

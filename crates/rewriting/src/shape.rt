@@ -1,21 +1,21 @@
 // The rows that a state must have: the parts of check 12 that read the area. Past rows stand from place 0 on, the
 // remainder behind the places for them.
-ghost use Rattle.std.specs.Prelude.{◌≡◌, true, false, not, ◌&&◌, ◌^◌, ◌<◌, leb};
+ghost use Rattle.std.specs.Prelude.{◌≡◌, true, false, not, ◌&&◌, ◌^◌, ◌<◌};
 ghost use Rattle.ground.specs.Fold.{some};
 ghost use Rattle.ground.specs.Bits.{bit};
 ghost use Rattle.forms.specs.Form.{names as names_of};
 ghost use Rattle.forms.specs.Words.{fits as fits_of};
 ghost use Rattle.forms.specs.Area.{row_at};
 ghost use Rattle.forms.specs.Rows.{OfForm};
-ghost use Rattle.rewriting.specs.Plans.{Sound, rule_for};
+ghost use Rattle.rewriting.specs.Plans.{rule_for};
 ghost use Rattle.rewriting.specs.Shape.{bits_above, zero_row};
 ghost use Rattle.rewriting.specs.Clauses.{BitsAboveClause, NotZeroFromClause, WrongRowsClause};
 ghost use Rattle.rewriting.specs.inside.Shapes.{Before, Tells, Placed, Fitting, widened, RowWrong, RecordWrong};
 
 use crate::kind::Kind;
 use crate::parts::signal;
-use crate::rule::{count_of, record_at};
-use crate::step::{Moment, Plan, Record};
+use crate::rule::{Rule, count_of, record_at};
+use crate::step::{Moment, Record};
 use forms::area::load;
 use forms::rows::{constant, fits, names, parameter};
 
@@ -103,11 +103,11 @@ fn widen(here: Here, m: usize) -> usize
 }
 
 // Record k of the rule, from what was counted before it.
-fn here_at(list: &[u8], plan: Plan, k: usize, first: usize, allowed: usize) -> Here
-    requires { Sound list.now plan × (k < plan.records) × Before (rule_for list.now plan) k first allowed }
-    ensures { Tells (rule_for list.now plan) k result × Placed plan.m result }
+fn here_at(rule: Rule<'_>, k: usize, first: usize, allowed: usize) -> Here
+    requires { (k < rule.plan.records) × Before (rule_for rule.list.now rule.plan) k first allowed }
+    ensures { Tells (rule_for rule.entry.list.now rule.entry.plan) k result × Placed rule.entry.plan.m result }
 {
-    let record = record_at(list, k);
+    let record = record_at(rule.list, k);
     Here {
         record,
         first,
@@ -118,18 +118,18 @@ fn here_at(list: &[u8], plan: Plan, k: usize, first: usize, allowed: usize) -> H
 
 // Whether a past row is not what it must be after the last record. It counts along where a record's parameters begin,
 // as the loops of `walk` do, and which of them look forward.
-pub fn wrong_rows(list: &[u8], plan: Plan, last: Moment, area: &[u64]) -> bool
-    requires { Sound list.now plan × (bits_above plan.places plan.m area.now ≡ false) }
-    ensures { WrongRowsClause list.now plan last area.now result }
+pub fn wrong_rows(rule: Rule<'_>, last: Moment, area: &[u64]) -> bool
+    requires { bits_above rule.plan.places rule.plan.m area.now ≡ false }
+    ensures { WrongRowsClause rule.entry.list.now rule.entry.plan last area.now result }
 {
     let mut first: usize = 0;
     let mut allowed: usize = 0;
-    for k in 0..plan.records {
-        let here = here_at(list, plan, k, first, allowed);
-        if record_wrong(here, plan.m, last, area) {
+    for k in 0..rule.plan.records {
+        let here = here_at(rule, k, first, allowed);
+        if record_wrong(here, rule.plan.m, last, area) {
             return true;
         }
-        allowed = widen(here, plan.m);
+        allowed = widen(here, rule.plan.m);
         first = here.first + here.count;
     }
     false

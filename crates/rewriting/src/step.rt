@@ -4,7 +4,8 @@ ghost use Rattle.std.specs.Prelude.{◌≡◌, ◌≤◌, ◌<◌};
 use crate::interval::{inside, inside_now, moved};
 use crate::kind::Kind;
 
-// The interval of a record, from its bytes: which kind of interval it is, and its ends.
+// The interval of a record, from its bytes: which kind of interval it is, and its ends. Its kind stays a byte, since
+// every kind is read alike.
 #[derive(Clone, Copy)]
 pub struct Interval {
     pub kind: u8,
@@ -62,7 +63,7 @@ impl Step {
         self.neighbour.and_then(|other| moved(self.record.interval, self.shift, self.here, other))
     }
 
-    // The step at shift n.
+    // The step at shift n. A struct with ghost fields takes no `..self`.
     pub(crate) fn at_shift(self, n: usize) -> Step
         requires { n < 256 }
         ensures { (h : n < 256) × (result ≡ at_shift self n h) }

@@ -3,15 +3,14 @@
 // that does so a proof would know nothing.
 ghost use Rattle.std.specs.Prelude.{◌≡◌, ◌*◌, ◌≤◌, length};
 ghost use Rattle.rewriting.specs.Known.{words_for};
-ghost use Rattle.rewriting.specs.Plans.{Sound, HoldsForms};
 ghost use Rattle.rewriting.specs.inside.Walks.{step_in, Apart, Puts, Walked};
 ghost use Rattle.rewriting.specs.Clauses.{FormsOfClause};
 
 use crate::form::form_row;
-use crate::row::{Row, own_at, step_row};
-use crate::rule::{count_of, record_at};
-use crate::step::{Moment, Plan, Step};
-use forms::area::store;
+use crate::row::{Row, other_at, own_at, step_row};
+use crate::rule::{Tabled, count_of, record_at};
+use crate::step::{Moment, Step};
+use forms::area::{Rows, store};
 
 // The forms of the first `records` records of the rule, in a table.
 pub fn forms_of(list: &[u8], records: usize, m: usize, table: &mut [u64])
@@ -21,7 +20,12 @@ pub fn forms_of(list: &[u8], records: usize, m: usize, table: &mut [u64])
     let mut first = 0;
     for k in 0..records {
         let record = record_at(list, k);
-        let row = form_row(record, first, m, table, k);
+        let before = Rows {
+            area: table,
+            base: 0,
+            count: k,
+        };
+        let row = form_row(record, first, m, before);
         store(table, k, row);
         first += count_of(record);
     }
@@ -52,47 +56,60 @@ pub(crate) fn step_at(
     }
 }
 
-// The rows of the shifts of record k.
+// The rows of the shifts of a record, from the forms of the records before it.
 fn record_rows(
     row: Row,
     step: Step,
     count: usize,
-    forms: &[u64],
-    k: usize,
+    forms: Rows<'_>,
     area: &mut [u64],
     scratch: usize,
     held: usize,
 )
     requires { Apart step count scratch held }
-    ensures { Puts row step count forms.now k area.old scratch held area.new }
+    ensures { Puts row step count forms.entry area.old scratch held area.new }
 {
-    let own = own_at(row, scratch);
+    let base = own_at(row, scratch);
+    let far = other_at(row, scratch);
     for n in 0..count {
-        let made = step_row(row, step.at_shift(n), forms, k, area, scratch, held);
-        store(area, own + step.first + n, made);
+        let own = Rows {
+            area,
+            base,
+            count: step.first,
+        };
+        let other = Rows {
+            area,
+            base: far,
+            count: held,
+        };
+        let made = step_row(row, step.at_shift(n), forms, own, other);
+        store(area, base + step.first + n, made);
     }
 }
 
 // The rows of the record here. The area holds so many of the other rows; none at the first record.
 pub(crate) fn rule_rows(
     row: Row,
-    list: &[u8],
-    plan: Plan,
+    tabled: Tabled<'_, '_>,
     here: Moment,
     near: Option<u32>,
     held: usize,
-    forms: &[u64],
     area: &mut [u64],
 )
-    requires { Sound list.now plan × HoldsForms list.now plan forms.now
-        × (length area.old ≡ words_for plan.places) × (held ≤ plan.m) }
-    ensures { Walked row list.now plan here near held area.old area.new }
+    requires { (length area.old ≡ words_for tabled.rule.plan.places) × (held ≤ tabled.rule.plan.m) }
+    ensures { Walked row tabled.entry.rule.list.now tabled.entry.rule.plan here near held area.old area.new }
 {
+    let plan = tabled.rule.plan;
     let mut first = 0;
     for k in 0..plan.records {
-        let step = step_at(list, k, first, plan.m, here, near);
+        let step = step_at(tabled.rule.list, k, first, plan.m, here, near);
         let count = count_of(step.record);
-        record_rows(row, step, count, forms, k, area, plan.places + 1, held);
+        let before = Rows {
+            area: tabled.forms,
+            base: 0,
+            count: k,
+        };
+        record_rows(row, step, count, before, area, plan.places + 1, held);
         first += count;
     }
 }

@@ -11,7 +11,7 @@ use std::io;
 use watcher::state::Watcher;
 
 // Opens rule, signals and log, in that order of arguments, and prints the lines, with what is wanted by a fourth.
-// A list that fills its buffer is longer than any, and refused.
+// A list that fills its buffer is longer than any, and refused. Lists are read into arrays: memory is fixed.
 fn main(rt: HostRuntime) -> io::Result<()> {
     tell_usage(
         &rt,

@@ -19,7 +19,8 @@ use Rattle.watcher.specs.declared.state.Word.{Word}
 use Rattle.watcher.specs.declared.state.Verdict.{Verdict}
 use Rattle.watcher.specs.declared.state.Phase.{Phase}
 use Rattle.watcher.specs.declared.state.Limits.{Limits}
-use Rattle.watcher.specs.Clauses.{LimitsClause, IsRefusedClause, WordClause, LastClause, ZeroStateClause}
+use Rattle.watcher.specs.Clauses.{LimitsClause, IsRefusedClause, VerdictClause, WordClause, LastClause}
+use Rattle.watcher.specs.Clauses.{ZeroStateClause}
 use Rattle.watcher.specs.Clauses.{CheckRuleClause, CheckListsClause, NumberClause}
 use Rattle.watcher.specs.Clauses.{WrongRecordClause, TimeOfClause, WrongSignalsClause, TestSignalClause}
 use Rattle.watcher.specs.Clauses.{SignalWordClause}
@@ -32,6 +33,9 @@ only_limits = only_one _
 
 pub only_is_refused : (found : Found) (o o' : Bool) → IsRefusedClause found o → IsRefusedClause found o' → o ≡ o'
 only_is_refused found = only_one _
+
+pub only_verdict : (value : Bool) (o o' : Verdict) → VerdictClause value o → VerdictClause value o' → o ≡ o'
+only_verdict value = only_one _
 
 pub only_word : (verdict : Verdict) (o o' : Word) → WordClause verdict o → WordClause verdict o' → o ≡ o'
 only_word verdict = only_one _

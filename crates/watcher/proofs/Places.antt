@@ -1,11 +1,13 @@
 -- What a search finds: the first place where its test holds, and nothing exactly where there is none.
 -- Assumes nothing.
-use Rattle.std.specs.Option.{option_or}
+use Rattle.std.specs.Option.{option_or, MatchOption}
 use Rattle.std.proofs.Common.{Option, Some, None, is_some}
+use Rattle.std.specs.List.{find, range_with_len}
 use mathlib.Core.Path.{◌≡◌, refl, sym, ap, ◌∙◌, subst}
 use mathlib.Core.Bool.{Bool, true, false, ◌||◌, cond, true≢false}
 use mathlib.Core.Logic.{◌↔◌, ⊎_elim}
-use Prim.Native.Nat.{ℕ, zero, suc, ◌<◌}
+use Prim.Native.Nat.{ℕ, zero, suc, ◌+◌, ◌≤◌, ◌<◌}
+use native.Mathlib.Nat.{eq-or-lt_of_le}
 use native.Mathlib.Omega.{arith}
 use Rattle.ground.specs.Fold.{fold, some}
 use Rattle.ground.proofs.Folds.{last_or_less, fold_none, fold_cong, fold_through, some_none, none_at}
@@ -24,7 +26,33 @@ found_either : (p q : Option Place) → is_some (option_or p q) ≡ (is_some p |
 found_either None q = refl
 found_either (Some p) q = refl
 
--- places joined from the first on
+-- what a search of the m numbers from a on finds: the first that passes the test
+abbrev Finds : (test : ℕ → Bool) (a m : ℕ) → Option ℕ → Type 0
+Finds test a m r =
+    MatchOption r ((j : ℕ) → a ≤ j → j < a + m → test j ≡ false)
+    (λ i. (a ≤ i) × (i < a + m) × (test i ≡ true) × ((j : ℕ) → a ≤ j → j < i → test j ≡ false))
+
+from_next : (test : ℕ → Bool) (a : ℕ) → test a ≡ false → (j : ℕ) → a ≤ j → (a + 1 ≤ j → test j ≡ false)
+    → test j ≡ false
+from_next test a e j l h = ⊎_elim (λ q. ap test (sym q) ∙ e) (λ n. h (omega (arith, n))) (eq-or-lt_of_le l)
+
+finds_more : (test : ℕ → Bool) (a m : ℕ) (b : Bool) (r : Option ℕ) → test a ≡ b → Finds test (a + 1) m r
+    → Finds test a (suc m) (cond b (Some a) r)
+finds_more test a m true r e h =
+    (omega arith, omega arith, e, λ j l k. let z : ⊥ = omega arith in absurd z)
+finds_more test a m false None e h = λ j l k. from_next test a e j l (λ n. h j n (omega arith))
+finds_more test a m false (Some i) e h = (
+  omega (arith, h.0),
+  omega (arith, h.1),
+  h.2,
+  λ j l k. from_next test a e j l (λ n. h.3 j n k),
+)
+
+finds_from : (test : ℕ → Bool) (m a : ℕ) → Finds test a m (find test (range_with_len a m))
+finds_from test zero a = λ j l k. let z : ⊥ = omega arith in absurd z
+finds_from test (suc m) a = finds_more test a m (test a) _ refl (finds_from test m (a + 1))
+
+-- places joined from-- places joined from the first on
 module _ (g : ℕ → Option Place) where
   abbrev joined : ℕ → Option Place
   joined n = fold option_or None n g
@@ -121,3 +149,25 @@ module _ (n : ℕ) (bound : ℕ → ℕ) (test : ℕ → ℕ → Bool) where
 
   pub where_at : (i j : ℕ) → (first_where n bound test ≡ at i j) ↔ First n bound test i j
   where_at i j = (first_at i j, at_first i j)
+
+  -- a search record by record: what is found in a record, and nothing before it, is the first; or it goes on
+  pub found : (i j : ℕ) → i < n → Clear bound test i → Some j ≡ find (test i) (range_with_len 0 (bound i))
+      → at i j ≡ first_where n bound test
+  found i j l clear e =
+      let here = subst (Finds (test i) 0 (bound i)) (sym e) (finds_from (test i) (bound i) 0) in
+      sym
+      (at_first i j
+      (record {
+        inside = (l, omega (arith, here.1));
+        holds = here.2;
+        clear = clear;
+        lower = λ b k. here.3 b (omega arith) k;
+      }))
+
+  pub found_nothing : Clear bound test n → None ≡ find (test n) (range_with_len 0 (bound n)) → Clear bound test (n + 1)
+  found_nothing clear e i h j k =
+      let here = subst (Finds (test n) 0 (bound n)) (sym e) (finds_from (test n) (bound n) 0) in
+      let l : i < suc n = omega (arith, h) in
+      ⊎_elim
+      (λ q. subst (λ a. j < bound a → test a j ≡ false) (sym q) (λ b. here j (omega arith) (omega (arith, b))) k)
+      (λ b. clear i b j k) (last_or_less l)

@@ -9,7 +9,7 @@ use native.Mathlib.Omega.{arith}
 use lib.ListN.{length}
 use Rattle.rewriting.specs.Known.{Tidy}
 use Rattle.rewriting.specs.declared.step.Plan.{Plan}
-use Rattle.rewriting.specs.Plans.{Sound, HoldsForms, Ready}
+use Rattle.rewriting.specs.Plans.{Sound}
 use Rattle.rewriting.proofs.TidyRows.{tidy}
 use Rattle.watcher.specs.declared.state.Watcher.{Watcher}
 use Rattle.watcher.specs.Limits.{most_records, most_parameters, list_bytes}
@@ -20,7 +20,7 @@ use Rattle.watcher.specs.inside.Turns.{plan_of, plan_in, Passed}
 use Rattle.watcher.proofs.Decoded.{fine_tests, length_fine, accepted_few}
 use Rattle.watcher.proofs.HeldLaws.{held_most, held_some, held_few}
 use Rattle.watcher.proofs.Breaking.{sound, Unbroken, unbroken}
-use Rattle.watcher.proofs.Turning.{sound_as, plan_records, tidy_as}
+use Rattle.watcher.proofs.Turning.{tidy_as}
 
 module _ (w : Watcher) (ws : List ℕ) (passed : Passed w ws) where
   fine : Unbroken w ws
@@ -41,13 +41,9 @@ module _ (w : Watcher) (ws : List ℕ) (passed : Passed w ws) where
       tidy most_parameters (parameters_of w) ws (passed_few held) passed.long passed.small fine.bits
       fine.unused
 
-  -- the plan that is made is ready for the table, and with it for the rewriting
-  module _ (plan : Plan) (is : plan ≡ plan_of w) (held : list_bytes ≡ length w.rule) where
-    pub passed_plan : Sound w.rule plan × (plan.records ≤ most_records)
-    passed_plan = (sound_as _ _ _ is (passed_sound held), plan_records _ _ _ is passed_most)
-
-    pub passed_ready : (table : List ℕ) → HoldsForms w.rule plan table → Ready w.rule plan table ws
-    passed_ready table forms = (passed_plan.0, forms, tidy_as w ws plan is (passed_tidy held))
+  -- the area is ready for the rewriting by its rule's plan
+  pub passed_area : (plan : Plan) → plan ≡ plan_of w → list_bytes ≡ length w.rule → Tidy plan.places plan.m ws
+  passed_area plan is held = tidy_as w ws plan is (passed_tidy held)
 
 -- lists that are accepted
 pub lists_most : (rule signals : List ℕ) → lists_refusal rule signals ≡ Ok tt → records_of rule ≤ most_records

@@ -17,7 +17,7 @@ use Rattle.watcher.specs.Limits.{limits_of}
 use Rattle.watcher.specs.Lists.{rule_refusal, lists_refusal}
 use Rattle.watcher.specs.Signals.{wrong_signals}
 use Rattle.watcher.specs.Records.{wrong_record, time_of, test_of, signal_word}
-use Rattle.watcher.specs.Numbers.{refusal_number, decided, verdict_value, stage_of, last_in, horizon_for}
+use Rattle.watcher.specs.Numbers.{refusal_number, verdict_for, decided, verdict_value, stage_of, last_in, horizon_for}
 use Rattle.watcher.specs.Calls.{zero_state, start_refusal, start_of, feed_refusal, feed_of, ask_of, close_of, wait_of}
 
 -- the limits, as numbers
@@ -27,6 +27,10 @@ LimitsClause o = o ≡ limits_of
 -- whether something is refused
 abbrev pub IsRefusedClause : Found → Bool → Type 0
 IsRefusedClause found o = o ≡ is_err found
+
+-- the verdict that says a value
+abbrev pub VerdictClause : (value : Bool) → Verdict → Type 0
+VerdictClause value o = o ≡ verdict_for value
 
 -- the word that says what a verdict says
 abbrev pub WordClause : Verdict → Word → Type 0

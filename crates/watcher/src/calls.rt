@@ -6,7 +6,6 @@ ghost use Rattle.watcher.specs.Lists.{lists_refusal};
 ghost use Rattle.watcher.specs.Calls.{fresh_state, running_state};
 ghost use Rattle.watcher.specs.Calls.{start_with, feed_with};
 ghost use Rattle.watcher.specs.inside.Turns.{Passed, ended_state, close_by};
-ghost use Rattle.watcher.specs.Numbers.{verdict_for, verdict_value};
 ghost use Rattle.watcher.specs.Clauses.{StartWouldRefuseClause, StartClause, WouldRefuseClause, FeedClause};
 ghost use Rattle.watcher.specs.Clauses.{AskClause, CloseClause, HorizonClause};
 

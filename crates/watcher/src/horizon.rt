@@ -1,5 +1,5 @@
 // How long a rule can stay open: the minutes of each record's horizon, and none where it has no limit.
-ghost use Rattle.std.specs.Prelude.{◌≡◌, ℕ, ◌+◌, ◌*◌, ◌≤◌, ◌<◌, get_or, None, IfSome};
+ghost use Rattle.std.specs.Prelude.{◌≡◌, ℕ, ◌+◌, ◌*◌, ◌≤◌, ◌<◌, get_or, None};
 ghost use Rattle.meaning.specs.Horizon.{horizon, larger, later};
 ghost use Rattle.rewriting.specs.Decode.{interval_for, rule_in};
 ghost use Rattle.watcher.specs.Limits.{most_records};
@@ -57,7 +57,8 @@ fn record_entry(record: Record, minutes: &[Option<usize>], k: usize) -> Option<u
     }
 }
 
-// How long the rule of the first records can stay open.
+// How long the rule of the first records can stay open. The loop stays over k, and the table an array: each record's
+// horizon is found from those before it in the same table.
 pub(crate) fn horizon_in(rule: &[u8], records: usize) -> Option<usize>
     requires { (0 < records) × (records ≤ most_records) }
     ensures { horizon_for result ≡ horizon (rule_in rule.now records) }

@@ -1,7 +1,9 @@
 // The checks of a rule list, and how many parameters its rule has.
-ghost use Rattle.std.specs.Prelude.{◌≡◌, false, ℕ, get_or, ◌+◌, ◌*◌, ◌<◌, ◌≤◌, length};
+ghost use Rattle.std.specs.Prelude.{◌≡◌, Bool, false, Option, ℕ, get_or, ◌+◌, ◌*◌, ◌/◌, ◌<◌, ◌≤◌, length};
+ghost use Rattle.std.specs.List.{find, range_with_len};
 ghost use Rattle.rewriting.specs.Decode.{record_bytes, record_in, kind_number};
 ghost use Rattle.watcher.specs.Limits.{list_bytes};
+ghost use Rattle.watcher.specs.Places.{first_where};
 ghost use Rattle.watcher.specs.Rules.{records_of, wrong_length_in, uses, fair_limits, names_right, used_right};
 ghost use Rattle.watcher.specs.Rules.{byte_breaks, first_broken, same_record, first_twins, many_parameters};
 
@@ -99,23 +101,32 @@ pub(crate) fn byte_breaks(list: &[u8], record: Record, k: usize, i: usize) -> bo
     }
 }
 
-// Where the layout is first broken: the lowest record, and its lowest byte. It stays apart from the search for twins:
-// here a record is read once for its eight bytes, and one function for both would take two closures.
-pub(crate) fn first_broken(list: &[u8]) -> Option<Place>
-    ensures { result ≡ first_broken record_bytes byte_breaks list.now }
+// Where a search of records first finds something: the lowest of so many records, and what is found in it.
+fn first_place<F: Fn(usize) -> Option<usize>>(records: usize, within: F) -> Option<Place>
+    requires { (k : ℕ) → k < records → F.pre within k }
+    ensures { (bound : ℕ → ℕ) (test : ℕ → ℕ → Bool)
+        → ((k : ℕ) (r : Option ℕ) → k < records → F.post within k r → r ≡ find (test k) (range_with_len 0 (bound k)))
+        → result ≡ first_where records bound test }
 {
-    for k in 0..records_of(list) {
-        let record = record_at(list, k);
-        for i in 0..Watcher::RECORD_BYTES {
-            if byte_breaks(list, record, k, i) {
-                return Some(Place {
-                    record: k,
-                    second: i,
-                });
-            }
+    for record in 0..records {
+        if let Some(second) = within(record) {
+            return Some(Place { record, second });
         }
     }
     None
+}
+
+// Where the layout is first broken: the lowest record, and its lowest byte. A record is read once for its eight bytes.
+pub(crate) fn first_broken(list: &[u8]) -> Option<Place>
+    ensures { result ≡ first_broken record_bytes byte_breaks list.now }
+{
+    let broken_byte = |k: usize|
+        ensures { result ≡ find (byte_breaks list.entry.now k) (range_with_len 0 record_bytes) }
+    {
+        let record = record_at(list, k);
+        (0..Watcher::RECORD_BYTES).find(|i| byte_breaks(list, record, k, *i))
+    };
+    first_place(records_of(list), broken_byte)
 }
 
 // Whether records `i` and `j`, of `size` bytes, have the same bytes.
@@ -131,17 +142,11 @@ pub(crate) fn first_twins(list: &[u8], size: usize) -> Option<Place>
     requires { 0 < size }
     ensures { result ≡ first_twins size list.now }
 {
-    for i in 0..list.len() / size {
-        for j in 0..i {
-            if same_record(list, size, i, j) {
-                return Some(Place {
-                    record: i,
-                    second: j,
-                });
-            }
-        }
-    }
-    None
+    let earlier_twin = |i: usize|
+        requires { i < length list.now / size }
+        ensures { result ≡ find (same_record size list.entry.now i) (range_with_len 0 i) }
+    { (0..i).find(|j| same_record(list, size, i, *j)) };
+    first_place(list.len() / size, earlier_twin)
 }
 
 // Whether the rule has more parameters than it may.

@@ -7,11 +7,11 @@ ghost use Rattle.watcher.specs.State.{parameters_of, start_refuses, wrong_in_pha
 
 use crate::held::{not_zeros_behind, signals_above, start_refuses};
 use crate::state::{Phase, Watcher};
-use rewriting::rule::parameters_in;
+use rewriting::rule::{Rule, parameters_in};
 use rewriting::shape::{bits_above, not_zero_from, wrong_rows};
 use rewriting::step::{Moment, Plan};
 
-// Whether a row is not what it must be in the state's phase.
+// Whether a row is not what it must be in the state's phase. It makes the plan itself, since m is counted already.
 #[tactic(auto, using(crate::proofs::Breaking::sound), unfolding(crate::specs::State::wrong_in_phase, crate::specs::Numbers::stage_of, crate::specs::State::parameters_of, crate::specs::State::rule_of))]
 fn wrong_in_phase(watcher: Watcher, m: usize, area: &[u64]) -> bool
     requires { (start_refuses watcher ≡ false) × (m ≡ parameters_of watcher)
@@ -27,7 +27,11 @@ fn wrong_in_phase(watcher: Watcher, m: usize, area: &[u64]) -> bool
                 places: Watcher::PARAMETERS,
             };
             let last = Moment { time, signals };
-            wrong_rows(&watcher.rule, plan, last, area)
+            let rule = Rule {
+                list: &watcher.rule,
+                plan,
+            };
+            wrong_rows(rule, last, area)
         }
         Phase::Closed(_) => false,
     }

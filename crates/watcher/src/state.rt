@@ -1,7 +1,5 @@
 // The watcher's state, its limits, and its answers.
-ghost use Rattle.std.specs.Prelude.{◌≡◌};
-ghost use Rattle.watcher.specs.Numbers.{verdict_for};
-ghost use Rattle.watcher.specs.Clauses.{LimitsClause, WordClause, LastClause, ZeroStateClause};
+ghost use Rattle.watcher.specs.Clauses.{LimitsClause, VerdictClause, WordClause, LastClause, ZeroStateClause};
 
 use rewriting::rule::RECORD_BYTES;
 use rewriting::step::Moment;
@@ -59,7 +57,8 @@ pub struct Report {
     pub word: Word,
 }
 
-// The rule's bytes and its records, the signals' bytes and their count, zeros behind each, and the phase.
+// The rule's bytes and its records, the signals' bytes and their count, zeros behind each, and the phase. They stay
+// arrays with a count: memory is fixed, and a state that is handed in may have anything behind, which check 12 judges.
 #[derive(Clone, Copy)]
 pub struct Watcher {
     pub rule: [u8; Watcher::LIST_BYTES],
@@ -103,7 +102,7 @@ pub struct Limits {
 }
 
 impl From<bool> for Verdict {
-    ghost from_gives = { λ value verdict. verdict ≡ verdict_for value };
+    ghost from_gives = { VerdictClause };
 
     #[tactic(auto, unfolding(crate::specs::Numbers::verdict_for))]
     fn from(value: bool) -> Verdict {
@@ -129,7 +128,7 @@ impl Verdict {
 }
 
 impl Phase {
-    // The last record; zeros where there is none.
+    // The last record; zeros where there is none, since the clause has a moment for every phase.
     #[tactic(auto, unfolding(crate::specs::Numbers::last_in, crate::specs::Numbers::stage_of))]
     pub fn last(self) -> Moment
         ensures { LastClause self result }

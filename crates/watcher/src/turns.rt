@@ -15,7 +15,7 @@ use crate::state::{Phase, Report, Watcher, Word};
 use forms::area::load;
 use forms::rows::{Truth, which_constant};
 use ground::bytes::byte;
-use rewriting::rule::parameters_in;
+use rewriting::rule::{Rule, Tabled, parameters_in};
 use rewriting::step::{Moment, Plan};
 use rewriting::walk::forms_of;
 use rewriting::{ending, rewrite};
@@ -49,38 +49,43 @@ pub(crate) fn report_on(area: &[u64]) -> Report
     }
 }
 
-// The plan of a rule with so many records.
-fn plan_for(rule: &[u8], records: usize) -> Plan
-    requires { records ≤ most_records }
-    ensures { result ≡ plan_on rule.now records }
+// The rule of so many records in a list.
+fn rule_in(list: &[u8], records: usize) -> Rule<'_>
+    requires { Sound list.now (plan_on list.now records) }
+    ensures { (result.list.now ≡ list.now) × (result.plan ≡ plan_on list.now records) }
 {
-    Plan {
+    let plan = Plan {
         records,
-        m: parameters_in(rule, records),
+        m: parameters_in(list, records),
         places: Watcher::PARAMETERS,
-    }
+    };
+    Rule { list, plan }
 }
 
 // The table of the forms of a rule's records.
-fn table_for(rule: &[u8], plan: Plan) -> [u64; Watcher::TABLE_WORDS]
-    requires { Sound rule.now plan × (plan.records ≤ most_records) }
-    ensures { HoldsForms rule.now plan result }
+fn table_for(rule: Rule<'_>) -> [u64; Watcher::TABLE_WORDS]
+    requires { rule.plan.records ≤ most_records }
+    ensures { HoldsForms rule.entry.list.now rule.entry.plan result }
 {
     let mut table = [0u64; Watcher::TABLE_WORDS];
-    forms_of(rule, plan.records, plan.m, &mut table);
+    forms_of(rule.list, rule.plan.records, rule.plan.m, &mut table);
     table
 }
 
 // The area at start.
 #[tactic(auto, unfolding(crate::specs::inside::Turns::begun_of))]
-pub(crate) fn begin_area(rule: &[u8], area: &mut [u64])
-    requires { Sound rule.now (plan_in rule.now) × (records_of rule.now ≤ most_records)
+pub(crate) fn begin_area(list: &[u8], area: &mut [u64])
+    requires { Sound list.now (plan_in list.now) × (records_of list.now ≤ most_records)
         × (length area.old ≡ area_words) }
-    ensures { area.new ≡ begun_of rule.now }
+    ensures { area.new ≡ begun_of list.now }
 {
-    let plan = plan_for(rule, records_of(rule));
-    let table = table_for(rule, plan);
-    ending::begin(rule, plan, &table, area);
+    let rule = rule_in(list, records_of(list));
+    let table = table_for(rule);
+    let tabled = Tabled {
+        rule,
+        forms: &table,
+    };
+    ending::begin(tabled, area);
 }
 
 // The area after a record: the first leaves the remainder, a later one is fed. That state and area pass refusals 7 and
@@ -90,16 +95,18 @@ pub(crate) fn rewrite_area(watcher: Watcher, new: Moment, area: &mut [u64])
     ensures { (area.new ≡ rewritten_of watcher new area.old)
         × (parameters_of watcher ≤ most_parameters) }
 {
-    let plan = plan_for(&watcher.rule, watcher.records);
-    let table = table_for(&watcher.rule, plan);
+    let rule = rule_in(&watcher.rule, watcher.records);
+    let table = table_for(rule);
+    let tabled = Tabled {
+        rule,
+        forms: &table,
+    };
     match watcher.phase {
         Phase::Running { time, signals } => {
             let last = Moment { time, signals };
-            rewrite::feed(&watcher.rule, plan, last, new, &table, area)
+            rewrite::feed(tabled, last, new, area)
         }
-        Phase::Fresh | Phase::Closed(_) => {
-            rewrite::first(&watcher.rule, plan, new, &table, area)
-        }
+        Phase::Fresh | Phase::Closed(_) => rewrite::first(tabled, new, area),
     }
 }
 
@@ -109,9 +116,13 @@ pub(crate) fn value_now(watcher: Watcher, area: &[u64]) -> bool
     requires { Passed watcher area.now }
     ensures { result ≡ value_now watcher area.now }
 {
-    let plan = plan_for(&watcher.rule, watcher.records);
-    let table = table_for(&watcher.rule, plan);
-    ending::value_if_last(&watcher.rule, plan, watcher.phase.last(), &table, area)
+    let rule = rule_in(&watcher.rule, watcher.records);
+    let table = table_for(rule);
+    let tabled = Tabled {
+        rule,
+        forms: &table,
+    };
+    ending::value_if_last(tabled, watcher.phase.last(), area)
 }
 
 // The area after closing with a value.
@@ -119,5 +130,6 @@ pub(crate) fn close_area(watcher: Watcher, b: bool, area: &mut [u64])
     requires { Passed watcher area.old }
     ensures { area.new ≡ closed_with (plan_of watcher) b area.old }
 {
-    ending::close(plan_for(&watcher.rule, watcher.records), b, area);
+    let rule = rule_in(&watcher.rule, watcher.records);
+    ending::close(rule.plan, b, area);
 }

@@ -1,5 +1,6 @@
 // The watcher's answers as letters: K, B and P for words, two letters that are given for verdicts, a hexadecimal digit
-// for a refusal, +, - and ? for tests.
+// for a refusal, +, - and ? for tests. `examples` has the like of its own: a crate between the two programs would need
+// more contracts than it saves lines.
 use watcher::readings::Tested;
 use watcher::state::{Refusal, Report, Verdict, Word};
 

@@ -10,7 +10,8 @@ const ROOM: usize = 136;
 // A list's bytes, in a fixed buffer.
 pub(crate) type List = ArrayVec<u8, ROOM>;
 
-// The kinds of rule records, by document 01's numbers.
+// The kinds of rule records, by document 01's numbers. The judge has its own, and so has the watcher: what makes the
+// cases takes from neither.
 #[derive(Clone, Copy, Debug, PartialEq, Eq)]
 enum Kind {
     True = 1,

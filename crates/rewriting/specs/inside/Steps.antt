@@ -3,6 +3,7 @@ use Rattle.std.specs.Prelude.{◌≡◌, Bool, false, List, Option, None, Some, 
 use Rattle.forms.specs.Form.{Form, or}
 use Rattle.forms.specs.Words.{pack}
 use Rattle.forms.specs.Area.{form_in, Holds}
+use Rattle.forms.specs.declared.area.Rows.{Rows}
 use Rattle.meaning.specs.Interval as interval
 use Rattle.meaning.specs.Rule.{Node, Entry}
 use Rattle.meaning.specs.Rewriting.{put, only_if, form_of, next_row, until_later, derived_row}
@@ -72,10 +73,14 @@ abbrev pub neighbour_of : Option ℕ → rewriting.Neighbour
 neighbour_of None = rewriting.none
 neighbour_of (Some time) = rewriting.at time
 
--- the answer is the record's form, from the forms of the k records before it
-abbrev pub OfRecord : Record → ℕ → (m : ℕ) → List ℕ → ℕ → List ℕ → Type 0
-OfRecord d first m ws k r =
-    (forms : List (Form m)) → Holds m ws 0 k forms → r ≡ pack m (form_of m forms first (node_for d))
+-- the rows that are handed in are those of the forms
+abbrev pub Are : (m : ℕ) → Rows → List (Form m) → Type 0
+Are m rows forms = Holds m rows.area.now rows.base rows.count forms
+
+-- the answer is the record's form, from the forms of the records before it
+abbrev pub OfRecord : Record → ℕ → (m : ℕ) → Rows → List ℕ → Type 0
+OfRecord d first m before r =
+    (forms : List (Form m)) → Are m before forms → r ≡ pack m (form_of m forms first (node_for d))
 
 -- where the rows that are made stand, and where the others do: past rows from 0 on, derived rows in the scratch
 abbrev pub own_at : Row → (scratch : ℕ) → ℕ
@@ -102,11 +107,10 @@ unfoldable pub made_of : Row → (step : Step) → (own other forms : List (Form
 made_of row step own other forms d n =
     row_by row step.m own other forms (entry_in step) (neighbour_of step.neighbour) step.first d n
 
--- the answer is the step's row
-abbrev pub OfMade : Row → Step → List ℕ → ℕ → List ℕ → (scratch held : ℕ) → List ℕ → Type 0
-OfMade row step fs k ws scratch held r =
-    (own other forms : List (Form step.m)) → Kept row step.m ws scratch held step.first own other
-    → Holds step.m fs 0 k forms
+-- the answer is the step's row, from the forms of the records before, such rows, and the others
+abbrev pub OfMade : Row → Step → (before mine theirs : Rows) → List ℕ → Type 0
+OfMade row step before mine theirs r =
+    (own other forms : List (Form step.m)) → Are step.m mine own → Are step.m theirs other → Are step.m before forms
     → r ≡ pack step.m (made_of row step own other forms (node_for step.record) step.shift)
 
 -- until or since, from right's form and the second part's
@@ -117,15 +121,15 @@ now_or step right second rows =
     (put step.m right rows))
     second
 
-abbrev pub NowOr : Step → List ℕ → List ℕ → ℕ → List ℕ → List ℕ → Type 0
-NowOr step right ws base second r =
+abbrev pub NowOr : Step → List ℕ → Rows → List ℕ → List ℕ → Type 0
+NowOr step right given second r =
     (f g : Form step.m) (rows : List (Form step.m)) → right ≡ pack step.m f → second ≡ pack step.m g
-    → Holds step.m ws base step.first rows → r ≡ pack step.m (now_or step f g rows)
+    → Are step.m given rows → r ≡ pack step.m (now_or step f g rows)
 
 -- the answer is next's derived row
-abbrev pub OfNext : Step → List ℕ → ℕ → List ℕ → Type 0
-OfNext step ws k r =
-    (m : ℕ) (forms : List (Form m)) → Holds m ws 0 k forms
+abbrev pub OfNext : Step → Rows → List ℕ → Type 0
+OfNext step before r =
+    (m : ℕ) (forms : List (Form m)) → Are m before forms
     → r ≡ pack m (next_row m forms step.record.left (interval_in step) step.here (neighbour_of step.neighbour))
 
 -- until's second part derived, with left's row
@@ -134,10 +138,10 @@ later_of step forms derived =
     until_later step.m forms derived step.first step.record.left (interval_in step) step.shift step.here
     (neighbour_of step.neighbour)
 
-abbrev pub OfLater : Step → List ℕ → List ℕ → ℕ → List ℕ → Type 0
-OfLater step left ws scratch r =
+abbrev pub OfLater : Step → List ℕ → Rows → List ℕ → Type 0
+OfLater step left mine r =
     (forms derived : List (Form step.m)) → left ≡ pack step.m (form_in step.m forms step.record.left)
-    → Holds step.m ws scratch step.first derived → r ≡ pack step.m (later_of step forms derived)
+    → Are step.m mine derived → r ≡ pack step.m (later_of step forms derived)
 
 -- previous resolved, with left's row
 unfoldable pub previous_of : (step : Step) → (forms derived past : List (Form step.m)) → Form step.m
@@ -145,10 +149,10 @@ previous_of step forms derived past =
     previous_row step.m forms derived past step.record.left (interval_in step) step.here
     (neighbour_of step.neighbour)
 
-abbrev pub OfPrevious : Step → List ℕ → List ℕ → ℕ → ℕ → List ℕ → Type 0
-OfPrevious step left ws scratch held r =
+abbrev pub OfPrevious : Step → List ℕ → (mine theirs : Rows) → List ℕ → Type 0
+OfPrevious step left mine theirs r =
     (forms derived past : List (Form step.m)) → left ≡ pack step.m (form_in step.m forms step.record.left)
-    → Kept Past step.m ws scratch held step.first past derived
+    → Are step.m mine past → Are step.m theirs derived
     → r ≡ pack step.m (previous_of step forms derived past)
 
 -- since's second part resolved, with left's row
@@ -157,8 +161,8 @@ earlier_of step forms derived past =
     since_earlier step.m forms derived past step.first step.record.left (interval_in step) step.shift
     step.here (neighbour_of step.neighbour)
 
-abbrev pub OfEarlier : Step → List ℕ → List ℕ → ℕ → ℕ → List ℕ → Type 0
-OfEarlier step left ws scratch held r =
+abbrev pub OfEarlier : Step → List ℕ → (mine theirs : Rows) → List ℕ → Type 0
+OfEarlier step left mine theirs r =
     (forms derived past : List (Form step.m)) → left ≡ pack step.m (form_in step.m forms step.record.left)
-    → Kept Past step.m ws scratch held step.first past derived
+    → Are step.m mine past → Are step.m theirs derived
     → r ≡ pack step.m (earlier_of step forms derived past)

@@ -4,12 +4,13 @@ use Rattle.std.proofs.Common.{lit<}
 use Rattle.forms.specs.Form.{Form}
 use Rattle.forms.specs.Words.{pack}
 use Rattle.forms.specs.Area.{put_rows, Holds}
+use Rattle.forms.specs.declared.area.Rows.{Rows}
 use Rattle.meaning.specs.Rule.{Node, Entry}
 use Rattle.meaning.specs.Rewriting.{derived_rows, past_rows}
 use Rattle.meaning.specs.Rewriting as rewriting
 use Rattle.rewriting.specs.Decode.{record_in, node_for}
 use Rattle.rewriting.specs.Plans.{form_row, rule_for, entry_for}
-use Rattle.rewriting.specs.inside.Steps.{neighbour_of, own_at, other_at, Kept, made_of}
+use Rattle.rewriting.specs.inside.Steps.{neighbour_of, own_at, other_at, Kept, Are, made_of}
 use Rattle.rewriting.specs.declared.row.Row.{Row}
 use Rattle.rewriting.specs.declared.row.Row.TheVariants.{Derived, Past}
 use Rattle.rewriting.specs.declared.step.Step.{Step}
@@ -42,10 +43,10 @@ pub record Apart (step : Step) (count scratch held : ℕ) : Type 0 where
 unfoldable pub made_row : Row → (step : Step) → (own other forms : List (Form step.m)) → ℕ → List ℕ
 made_row row step own other forms n = pack step.m (made_of row step own other forms (node_for step.record) n)
 
-abbrev pub Puts : Row → Step → ℕ → List ℕ → ℕ → List ℕ → (scratch held : ℕ) → List ℕ → Type 0
-Puts row step count fs k ws scratch held r =
+abbrev pub Puts : Row → Step → ℕ → Rows → List ℕ → (scratch held : ℕ) → List ℕ → Type 0
+Puts row step count before ws scratch held r =
     (own other forms : List (Form step.m)) → Kept row step.m ws scratch held step.first own other
-    → Holds step.m fs 0 k forms
+    → Are step.m before forms
     → r ≡ put_rows ws (own_at row scratch + step.first) count (made_row row step own other forms)
 
 -- the rows of a rule's first k records at a record of the log, from the others

@@ -9,4 +9,4 @@ returns-then-is_none c =
     put_constant _ _ _ _ (unseen _ _ _ _ (sym c.if-is_none.ensures) c.next_term.ensures)
 
 pub returns-in-Some : goal.returns-in-Some
-returns-in-Some c = put_lone _ _ _ _ _ _ c.in-Some.ensures c.row_of-r.ensures
+returns-in-Some c = put_lone _ _ _ _ _ _ c.in-Some.ensures c.row-r.ensures

@@ -7,4 +7,4 @@ returns-then-named-j-eq0 c = table_none _ _ _ _ _ c.if-named-j-eq0.true
 
 pub returns : goal.returns
 returns c =
-    table_here _ _ _ _ _ _ _ c.if-named-j-eq0.false c.row_of.ensures c.truth_of.ensures
+    table_here _ _ _ _ _ _ _ c.if-named-j-eq0.false c.row.ensures c.truth_of.ensures

@@ -12,5 +12,5 @@ use Rattle.forms.proofs.table.tables.Given as goal
 abbrev pub invariant-loop-j : goal.invariant-loop-j
 invariant-loop-j l =
     (l.j ≤ 12) × (length l.ts ≡ 768)
-    × ((rows : List (Form most)) → Holds most l.area l.base l.count rows
+    × ((rows : List (Form most)) → Holds most l.rows.area.now l.rows.base l.rows.count rows
     → Tables l.ts l.j (only_named l.named (form_in most rows)))

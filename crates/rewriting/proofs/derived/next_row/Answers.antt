@@ -6,7 +6,7 @@ use Rattle.rewriting.proofs.derived.next_row.Goals as goal
 pub returns-then-sees_neighbour : goal.returns-then-sees_neighbour
 unfolding only_if
 returns-then-sees_neighbour c m forms h =
-    rw (← next_beside m forms, ← c.sees_neighbour.ensures, c.if-sees_neighbour.true) (c.row_of.ensures m forms h)
+    rw (← next_beside m forms, ← c.sees_neighbour.ensures, c.if-sees_neighbour.true) (c.row.ensures m forms h)
 
 pub returns-else-sees_neighbour : goal.returns-else-sees_neighbour
 unfolding only_if

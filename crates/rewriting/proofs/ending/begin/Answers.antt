@@ -4,6 +4,7 @@ use Rattle.rewriting.proofs.ending.begin.Goals as goal
 
 pub returns : goal.returns
 returns c =
-    begun_laid c.args.list.now c.args.plan _ _ _ _ _ c.requires.2 c.clear.ensures
-    (c.row_of.ensures _ _ c.requires.1)
+    let tabled = c.args.tabled in
+    begun_laid tabled.rule.list.now tabled.rule.plan _ _ _ _ _ c.requires c.clear.ensures
+    (c.row.ensures _ _ tabled.holds)
     (record { rest = c.store.ensures; zeros = c.clear-2.ensures })

@@ -35,7 +35,7 @@ pub returns-in-Previous : goal.returns-in-Previous
 unfolding end_value
 returns-in-Previous c past forms derived alone hp hf hs =
     let step = c.args.step in
-    let found = c.value-in-Previous.ensures _ _ c.args.step.few (c.row_of-in-Previous.ensures _ past hp) in
+    let found = c.value-in-Previous.ensures _ _ c.args.step.few (c.row-in-Previous.ensures _ past hp) in
     let b = c.value-in-Previous.result in
     end_is step past forms derived alone c.args.setting hs b
     (kind_past step.record (λ x. b ≡ end_of step past forms derived alone c.args.setting hs b x) found found
@@ -49,7 +49,7 @@ returns-then-sees_itself c past forms derived alone hp hf hs =
     end_is step past forms derived alone c.args.setting hs b
     (is_kind step.record (λ x. b ≡ end_of step past forms derived alone c.args.setting hs b x) Until c.in-Until.is
     (rw (← c.sees_itself.ensures, c.if-sees_itself.true)
-    (c.value.ensures _ _ c.args.step.few (c.row_of.ensures _ forms hf))))
+    (c.value.ensures _ _ c.args.step.few (c.row.ensures _ forms hf))))
 
 pub returns-else-sees_itself : goal.returns-else-sees_itself
 unfolding end_value entry_in interval_for

@@ -5,4 +5,4 @@ use Rattle.rewriting.proofs.ending.end_values.Given as goal
 
 abbrev pub invariant-loop-n : goal.invariant-loop-n
 invariant-loop-n l =
-    (l.n ≤ l.count) × OfEnds l.step l.n l.forms l.k l.area l.setting l.grown
+    (l.n ≤ l.count) × OfEnds l.step l.n l.forms l.past l.setting l.grown

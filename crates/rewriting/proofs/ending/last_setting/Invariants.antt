@@ -8,5 +8,6 @@ use Rattle.rewriting.proofs.ending.last_setting.Given as goal
 
 abbrev pub invariant-loop-k : goal.invariant-loop-k
 invariant-loop-k l =
-    (l.k ≤ l.plan.records) × (l.first ≡ first_of (rule_for l.list l.plan) l.k)
-    × Settled l.plan.m (last_rows l.list l.plan l.last l.area l.k) l.setting
+    let rule = l.tabled.rule in
+    (l.k ≤ rule.plan.records) × (l.first ≡ first_of (rule_for rule.list.now rule.plan) l.k)
+    × Settled rule.plan.m (last_rows rule.list.now rule.plan l.last l.area l.k) l.setting

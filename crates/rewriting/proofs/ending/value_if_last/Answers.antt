@@ -9,7 +9,7 @@ use Rattle.rewriting.proofs.ending.value_if_last.Goals as goal
 pub returns : goal.returns
 returns c =
     let a = c.args in
-    let p = c.requires in
-    let few : a.plan.m ≤ 12 = omega (arith, p.0.few, p.0.room) in
-    last_valued a.list.now a.plan a.last a.area.now _ _ c.last_setting-setting.ensures
-    (c.value.ensures _ _ few (c.load.ensures ∙ tidy_rest _ _ _ p.2))
+    let rule = a.tabled.rule in
+    let few : rule.plan.m ≤ 12 = omega (arith, rule.sound.few, rule.sound.room) in
+    last_valued rule.list.now rule.plan a.last a.area.now _ _ c.last_setting-setting.ensures
+    (c.value.ensures _ _ few (c.load.ensures ∙ tidy_rest _ _ _ c.requires))

@@ -28,13 +28,13 @@ pub returns-in-And : goal.returns-in-And
 unfolding form_of
 returns-in-And c forms h =
     is_kind c.args.record (Forms _ forms c.args.first _) And c.in-And.is
-    (c.and.ensures _ _ _ c.requires (c.row_of.ensures _ forms h) (c.row_of-in-And.ensures _ forms h))
+    (c.and.ensures _ _ _ c.requires (c.row.ensures _ forms h) (c.row-in-And.ensures _ forms h))
 
 pub returns-in-Xor : goal.returns-in-Xor
 unfolding form_of
 returns-in-Xor c forms h =
     is_kind c.args.record (Forms _ forms c.args.first _) Xor c.in-Xor.is
-    (c.xor.ensures _ _ _ c.requires (c.row_of-in-Xor.ensures _ forms h) (c.row_of-in-Xor-2.ensures _ forms h))
+    (c.xor.ensures _ _ _ c.requires (c.row-in-Xor.ensures _ forms h) (c.row-in-Xor-2.ensures _ forms h))
 
 pub returns-in-Signal : goal.returns-in-Signal
 unfolding form_of

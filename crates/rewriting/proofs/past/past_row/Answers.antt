@@ -14,37 +14,37 @@ use Rattle.rewriting.proofs.past.past_row.Goals as goal
 
 pub returns-in-True : goal.returns-in-True
 unfolding made_of row_by past_row
-returns-in-True c own other forms h hf =
+returns-in-True c own other forms hm ht hf =
     let step = c.args.step in
     let none = c.constant.ensures _ in
     kind_quiet step.record (Makes Past step own other forms _) none none none none c.in-True.is
 
 pub returns-in-Signal : goal.returns-in-Signal
 unfolding made_of row_by past_row holds entry_in
-returns-in-Signal c own other forms h hf =
+returns-in-Signal c own other forms hm ht hf =
     let step = c.args.step in
     is_kind step.record (Makes Past step own other forms _) Signal c.in-Signal.is
     (c.constant-in-Signal.ensures _ ∙ ap (λ b. pack step.m (constant step.m b)) c.signal.ensures)
 
 pub returns-in-Next : goal.returns-in-Next
 unfolding made_of row_by past_row
-returns-in-Next c own other forms h hf =
+returns-in-Next c own other forms hm ht hf =
     let step = c.args.step in
     let itself = c.parameter.ensures in
     kind_future step.record (Makes Past step own other forms _) itself itself c.in-Next.is
 
 pub returns-in-Previous : goal.returns-in-Previous
 unfolding made_of row_by past_row entry_in previous_of interval_for
-returns-in-Previous c own other forms h hf =
+returns-in-Previous c own other forms hm ht hf =
     let step = c.args.step in
     is_kind step.record (Makes Past step own other forms _) Previous c.in-Previous.is
-    (c.previous_row.ensures forms other own (c.row_of-left.ensures _ forms hf) h)
+    (c.previous_row.ensures forms other own (c.row-left.ensures _ forms hf) hm ht)
 
 pub returns-in-Since : goal.returns-in-Since
 unfolding made_of row_by past_row entry_in now_or earlier_of interval_for
-returns-in-Since c own other forms h hf =
+returns-in-Since c own other forms hm ht hf =
     let step = c.args.step in
     kind_since step.record (Makes Past step own other forms _)
-    (c.now_or.ensures _ _ own (c.row_of-right.ensures _ forms hf)
-    (c.since_earlier-earlier.ensures forms other own (c.row_of-left-in-Since.ensures _ forms hf) h) h.mine)
+    (c.now_or.ensures _ _ own (c.row-right.ensures _ forms hf)
+    (c.since_earlier-earlier.ensures forms other own (c.row-left-in-Since.ensures _ forms hf) hm ht) hm)
     c.in-Since.is

@@ -9,7 +9,7 @@ use Rattle.rewriting.proofs.past.since_earlier.Goals as goal
 
 pub returns-in_default : goal.returns-in_default
 unfolding earlier_of
-returns-in_default c forms derived past e h =
+returns-in_default c forms derived past e hm ht =
     let step = c.args.step in
     c.constant.ensures _
     ∙ ap (pack step.m) (earlier_gone _ forms _ _ _ derived step.first _ _ _ c.moved.ensures.0 past
@@ -17,9 +17,9 @@ returns-in_default c forms derived past e h =
 
 pub returns : goal.returns
 unfolding earlier_of put
-returns c forms derived past e h =
+returns c forms derived past e hm ht =
     let step = c.args.step in
     let few = c.args.step.few in
-    c.and.ensures step.m _ _ few (c.put_in-kept.ensures step.m _ past few e h.mine)
-    (c.put_in-before.ensures step.m _ past few (c.row_of-derived.ensures step.m derived h.theirs) h.mine)
+    c.and.ensures step.m _ _ few (c.put_in-kept.ensures step.m _ past few e hm)
+    (c.put_in-before.ensures step.m _ past few (c.row-moved.ensures step.m derived ht) hm)
     ∙ ap (pack step.m) (earlier_to _ forms _ _ _ derived step.first _ _ _ c.moved.ensures.0 past _ c.in-Some.is)

@@ -11,12 +11,11 @@ loop-k-init c = (search rules, search rules, before_none _, below_none _)
 
 pub record_wrong-requires : goal.record_wrong-requires
 record_wrong-requires c =
-    let p = c.requires in
-    (c.here_at-here.ensures.1, fitting _ _ _ p.0.few p.1)
+    (c.here_at-here.ensures.1, fitting _ _ _ c.args.rule.sound.few c.requires)
 
 pub returns-then-record_wrong : goal.returns-then-record_wrong
 returns-then-record_wrong c =
-    rows_found c.args.list.now c.args.plan _ _ _ _ c.loop-k-test.true
+    rows_found c.args.rule.list.now c.args.rule.plan _ _ _ _ c.loop-k-test.true
     (c.record_wrong.ensures _ _ c.here_at-here.ensures.0) c.if-record_wrong.true
 
 pub loop-k-preserved : goal.loop-k-preserved
@@ -31,4 +30,4 @@ loop-k-preserved c =
 
 pub returns : goal.returns
 returns c =
-    rows_none c.args.list.now c.args.plan _ _ _ c.loop-k-test.false c.loop-k.invariant.3
+    rows_none c.args.rule.list.now c.args.rule.plan _ _ _ c.loop-k-test.false c.loop-k.invariant.3

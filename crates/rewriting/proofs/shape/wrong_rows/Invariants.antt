@@ -10,6 +10,7 @@ use Rattle.rewriting.proofs.shape.wrong_rows.Given as goal
 
 abbrev pub invariant-loop-k : goal.invariant-loop-k
 invariant-loop-k l =
-    (l.k ≤ l.k-end) × (l.k-end ≡ l.plan.records) × Before (rule_for l.list l.plan) l.k l.first l.allowed
+    let rule = l.rule in
+    (l.k ≤ l.k-end) × (l.k-end ≡ rule.plan.records) × Before (rule_for rule.list.now rule.plan) l.k l.first l.allowed
     × ((j : ℕ) → j < l.k
-    → wrong_at (rule_for l.list l.plan) l.plan.m (entry_for l.last) (past_in l.plan.m l.area) j ≡ false)
+    → wrong_at (rule_for rule.list.now rule.plan) rule.plan.m (entry_for l.last) (past_in rule.plan.m l.area) j ≡ false)

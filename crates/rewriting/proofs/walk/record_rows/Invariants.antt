@@ -8,4 +8,4 @@ use Rattle.rewriting.proofs.walk.record_rows.Given as goal
 abbrev pub invariant-loop-n : goal.invariant-loop-n
 invariant-loop-n l =
     (l.n ≤ l.count) × (length l.area ≡ length l.initial.area)
-    × Puts l.row l.step l.n l.forms l.k l.initial.area l.scratch l.held l.area
+    × Puts l.row l.step l.n l.forms l.initial.area l.scratch l.held l.area

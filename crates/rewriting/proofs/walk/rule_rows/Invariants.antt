@@ -13,9 +13,11 @@ use Rattle.rewriting.proofs.walk.rule_rows.Given as goal
 
 abbrev pub invariant-loop-k : goal.invariant-loop-k
 invariant-loop-k l =
-    (l.k ≤ l.plan.records)
-    × (l.first ≡ first_of (rule_for l.list l.plan) l.k)
+    let rule = l.tabled.rule in
+    (l.k ≤ rule.plan.records)
+    × (l.first ≡ first_of (rule_for rule.list.now rule.plan) l.k)
     × (length l.area ≡ length l.initial.area)
-    × ((other : List (Form l.plan.m)) → Holds l.plan.m l.initial.area (other_at l.row (l.plan.places + 1)) l.held other
-    → l.area ≡ put_rows l.initial.area (own_at l.row (l.plan.places + 1)) l.first
-    (form_row l.plan.m (rows_for l.row l.list l.plan l.here l.near other)))
+    × ((other : List (Form rule.plan.m))
+    → Holds rule.plan.m l.initial.area (other_at l.row (rule.plan.places + 1)) l.held other
+    → l.area ≡ put_rows l.initial.area (own_at l.row (rule.plan.places + 1)) l.first
+    (form_row rule.plan.m (rows_for l.row rule.list.now rule.plan l.here l.near other)))

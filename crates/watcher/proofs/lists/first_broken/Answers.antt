@@ -1,21 +1,13 @@
--- `lists::first_broken` meets its contract: no record before `k` breaks the layout, and of `k` no byte before `i`.
-use mathlib.Core.Path.{sym, ◌∙◌}
-use native.Mathlib.Omega.{arith}
-use Rattle.watcher.specs.Rules.{records_of, first_broken}
-use Rattle.watcher.proofs.Places.{where_at, where_none}
+-- `lists::first_broken` meets its contract: the search of record k finds its lowest byte that breaks the layout.
+use mathlib.Core.Path.{ap, ◌∙◌}
+use Rattle.std.proofs.Common.{rules}
+use Rattle.rewriting.specs.Decode.{record_bytes}
+use Rattle.watcher.specs.Places.{first_where}
+use Rattle.watcher.specs.Rules.{records_of, first_broken, byte_breaks}
 use Rattle.watcher.proofs.lists.first_broken.Goals as goal
-
-pub returns-then-byte_breaks : goal.returns-then-byte_breaks
-unfolding first_broken records_of
-returns-then-byte_breaks c =
-    sym ((where_at _ _ _ _ _).1
-    (record {
-      inside = (omega arith, omega arith);
-      holds = sym c.byte_breaks.ensures ∙ c.if-byte_breaks.true;
-      clear = c.loop-k.invariant;
-      lower = c.loop-i.invariant;
-    }))
 
 pub returns : goal.returns
 unfolding first_broken records_of
-returns c = sym ((where_none _ _ _).1 (λ a h. c.loop-k.invariant a (omega arith)))
+returns c =
+    c.first_place.ensures (λ k. record_bytes) (byte_breaks c.args.list.now) (λ k r h is. search rules)
+    ∙ ap (λ n. first_where n (λ k. record_bytes) (byte_breaks c.args.list.now)) c.records_of.ensures

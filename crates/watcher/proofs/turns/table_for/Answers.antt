@@ -6,8 +6,8 @@ use Rattle.watcher.proofs.turns.table_for.Goals as goal
 
 pub forms_of-requires : goal.forms_of-requires
 forms_of-requires c =
-    let p = c.requires in (omega (arith, p.0.few, p.0.room), omega (arith, p.1), search rules)
+    let sound = c.args.rule.sound in (omega (arith, sound.few, sound.room), omega (arith, c.requires), search rules)
 
 pub returns : goal.returns
 returns c =
-    table_held _ _ _ _ _ (omega (arith, c.requires.1)) c.forms_of.ensures
+    table_held _ _ _ _ _ (omega (arith, c.requires)) c.forms_of.ensures

@@ -1,14 +1,14 @@
 -- `turns::value_now` meets its contract: the plan is that of the state's rule.
 use native.Mathlib.Omega.{arith}
-use Rattle.watcher.proofs.TurnLaws.{passed_most, passed_plan, passed_ready}
+use Rattle.watcher.proofs.Turning.{plan_records}
+use Rattle.watcher.proofs.TurnLaws.{passed_most, passed_sound, passed_area}
 use Rattle.watcher.proofs.turns.value_now.Goals as goal
 
-pub plan_for-plan-requires : goal.plan_for-plan-requires
-plan_for-plan-requires c = passed_most _ _ c.requires
+pub rule_in-rule-requires : goal.rule_in-rule-requires
+rule_in-rule-requires c = passed_sound _ _ c.requires (omega arith)
 
 pub table_for-table-requires : goal.table_for-table-requires
-table_for-table-requires c = passed_plan _ _ c.requires _ c.plan_for-plan.ensures (omega arith)
+table_for-table-requires c = plan_records _ _ _ c.rule_in-rule.ensures.1 (passed_most _ _ c.requires)
 
 pub value_if_last-requires : goal.value_if_last-requires
-value_if_last-requires c =
-    passed_ready _ _ c.requires _ c.plan_for-plan.ensures (omega arith) _ c.table_for-table.ensures
+value_if_last-requires c = passed_area _ _ c.requires _ c.rule_in-rule.ensures.1 (omega arith)
