@@ -58,7 +58,8 @@ impl<'a> Line<'a> {
         self.put(b'0' + (n % 10) as u8);
     }
 
-    // The numbers below an end that pass a test, rising, with a comma between them; answers whether there is one.
+    // The numbers below an end that pass a test, rising, with a comma between them; answers whether there is one. The
+    // flag stays: by it a comma is due, and it is the answer.
     pub(crate) fn put_numbers<F: Fn(usize) -> bool>(&mut self, end: usize, test: F) -> bool
         requires { (k : ℕ) → k < end → F.pre test k }
         ensures { (is_put : ℕ → Bool) → ((k : ℕ) (b : Bool) → k < end → F.post test k b → b ≡ is_put k)

@@ -17,17 +17,19 @@ use Rattle.meaning.specs.Rewriting.{none, forms_of, derived_row, derived_rows}
 use Rattle.meaning.specs.Words.{value_if_last}
 use Rattle.meaning.proofs.Blocks.{length_derived_rows}
 use Rattle.meaning.proofs.Ending.{last_value}
+use Rattle.rewriting.specs.declared.step.Record.{Record}
 use Rattle.rewriting.specs.declared.step.Step.{Step}
 use Rattle.rewriting.specs.declared.step.Plan.{Plan}
 use Rattle.rewriting.specs.declared.step.Moment.{Moment}
 use Rattle.std.specs.Prelude.{None}
-use Rattle.rewriting.specs.Decode.{node_in, node_for, record_in}
+use Rattle.rewriting.specs.Decode.{node_in, node_for}
 use Rattle.rewriting.specs.Known.{past_in, known_in, form_at}
 use Rattle.rewriting.specs.Plans.{rule_for, entry_for, read_in}
 use Rattle.rewriting.specs.inside.Steps.{Are, entry_in, row_by, made_of}
+use Rattle.rewriting.specs.inside.Listed.{Given}
 use Rattle.rewriting.specs.inside.Walks.{step_in}
 use Rattle.rewriting.specs.inside.Endings.{Settled, OfEnds, last_rows}
-use Rattle.rewriting.proofs.Rules.{length_rule_in, node_in_lem, record_node}
+use Rattle.rewriting.proofs.Rules.{length_rule_in, node_in_lem, record_node, record_count}
 
 -- the derived rows of one record more
 last_rows_more : (list : List ℕ) (plan : Plan) (last : Moment) (ws : List ℕ) (k : ℕ) → k < plan.records
@@ -54,26 +56,27 @@ module _ (list : List ℕ) (plan : Plan) (last : Moment) (ws : List ℕ) where
 
   pub last_more : (k : ℕ) (before held : Rows) → Are plan.m before (forms_of plan.m (rule_for list plan) k)
       → Are plan.m held (past_in plan.m ws) → (first c setting r : ℕ) (step : Step)
-      → k < plan.records → first ≡ first_of (rule_for list plan) k → c ≡ count (node_in list k)
+      (d : Record) → Given list plan.records k d first → c ≡ count (node_for d)
       → (few : plan.m ≤ 12) (within : first ≤ 12)
-      → step ≡ step_in list k first plan.m last None few within
+      → step ≡ step_in d first plan.m last None few within
       → Settled plan.m (last_rows list plan last ws k) setting
       → OfEnds step c before held setting r → Settled plan.m (last_rows list plan last ws (k + 1)) r
   unfolding made_of row_by entry_in
-  last_more k before held hf hp first c setting r step h e q few within is s ends =
+  last_more k before held hf hp first c setting r step d given counted few within is s ends =
       let m = plan.m in
       let rule = rule_for list plan in
       let rows = last_rows list plan last ws k in
       let past = past_in m ws in
       let forms = forms_of m rule k in
-      let d = record_in list k in
+      let q = record_count list k d given.read c counted in
       subst (λ x. Settled m x r)
       (ap (λ i. rows ++ tab i (derived_row m past forms rows (entry_for last) none first (node_for d))) q
-      ∙ ap₂ (λ i x. rows ++ tab (count (node_in list k)) (derived_row m past forms rows (entry_for last) none i x)) e
-      (record_node list k d refl)
-      ∙ sym (last_rows_more list plan last ws k h))
+      ∙ ap₂ (λ i x. rows ++ tab (count (node_in list k)) (derived_row m past forms rows (entry_for last) none i x))
+      given.begins
+      (record_node list k d given.read)
+      ∙ sym (last_rows_more list plan last ws k given.less))
       (subst (λ x. OfEnds x c before held setting r) is ends past forms rows refl hp hf
-      (length_last_rows list plan last ws k ∙ sym e) s)
+      (length_last_rows list plan last ws k ∙ sym given.begins) s)
 
 -- the remainder's value under that setting
 pub last_valued : (list : List ℕ) (plan : Plan) (last : Moment) (ws : List ℕ) (setting : ℕ) (b : Bool)

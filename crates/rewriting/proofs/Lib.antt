@@ -13,6 +13,7 @@ pub mod Making
 pub mod Walking
 pub mod Endings
 pub mod Lasting
+pub mod Listing
 pub mod Laid
 pub mod Feeding
 pub mod Rewritten

@@ -25,16 +25,18 @@ use Rattle.forms.specs.Words.{pack, unpack, fits}
 use Rattle.forms.specs.Area.{row_at, form_in}
 use Rattle.forms.proofs.Packing.{pack_unpack}
 use Rattle.meaning.specs.Rule.{Node, node_at, count, first_of, Entry}
-use Rattle.meaning.proofs.Blocks.{first_of_fits}
 use Rattle.rewriting.specs.declared.step.Moment.{Moment}
 use Rattle.rewriting.specs.declared.step.Plan.{Plan}
-use Rattle.rewriting.specs.Decode.{node_in, node_for}
+use Rattle.rewriting.specs.Decode.{node_for}
 use Rattle.rewriting.specs.Known.{form_at, past_in}
 use Rattle.rewriting.specs.Plans.{Sound, rule_for, entry_for}
-use Rattle.rewriting.proofs.Rules.{length_rule_in, node_in_lem}
+use Rattle.rewriting.proofs.Rules.{length_rule_in, node_in_lem, record_node}
+use Rattle.rewriting.proofs.Walking.{block_fits}
+use Rattle.rewriting.specs.declared.step.Record.{Record}
 use Rattle.rewriting.specs.declared.shape.Here.{Here}
+use Rattle.rewriting.specs.inside.Listed.{Given}
 use Rattle.rewriting.specs.Shape.{looks_forward, forward, wrong_row, wrong_at, wrong_rows}
-use Rattle.rewriting.specs.inside.Shapes.{Before, Tells, Placed, Fitting, widened}
+use Rattle.rewriting.specs.inside.Shapes.{Before, Tells, Fitting, widened}
 
 -- a row that fits is that of its form
 row_is : (m : ℕ) (row : List ℕ) → length row ≡ 64 → ((i : ℕ) → Fits w64 (get_or row i 0)) → fits m row ≡ true
@@ -52,17 +54,19 @@ unfolding past_in form_at
 past_form m ws j h = get_d_tab m (form_at m ws) j _ h
 
 -- the row of a record's shift
-module _ (here : Here) (m : ℕ) (last : Moment) (ws : List ℕ) (placed : Placed m here) (n : ℕ) (row : List ℕ)
+module _ (here : Here) (last : Moment) (ws : List ℕ) (n : ℕ) (row : List ℕ)
     (h : n < here.count) (e : row ≡ row_at ws (here.first + n)) where
-  pub tested : Fitting m ws → length row ≡ 64 → ((i : ℕ) → Fits w64 (get_or row i 0)) → (rule : List Node) (k : ℕ)
+  pub tested : Fitting here.m ws → length row ≡ 64 → ((i : ℕ) → Fits w64 (get_or row i 0)) → (rule : List Node) (k : ℕ)
       → Tells rule k here → (r : Bool)
-      → (row ≡ pack m (unpack m row) → r ≡ wrong_row rule m (entry_for last) k n (node_at rule k) (unpack m row))
-      → r ≡ wrong_row rule m (entry_for last) k n (node_at rule k) (form_in m (past_in m ws) (first_of rule k + n))
+      → (row ≡ pack here.m (unpack here.m row)
+      → r ≡ wrong_row rule here.m (entry_for last) k n (node_at rule k) (unpack here.m row))
+      → r ≡ wrong_row rule here.m (entry_for last) k n (node_at rule k)
+      (form_in here.m (past_in here.m ws) (first_of rule k + n))
   tested all long small rule k t r w =
-      w (row_is m row long small (row_fits m ws (here.first + n) row all (omega (arith, placed.within)) e))
-      ∙ ap (wrong_row rule m (entry_for last) k n (node_at rule k))
-      (ap (unpack m) e ∙ sym (past_form m ws (here.first + n) (omega (arith, placed.within)))
-      ∙ ap (λ x. form_in m (past_in m ws) (x + n)) t.before.starts)
+      w (row_is here.m row long small (row_fits here.m ws (here.first + n) row all (omega (arith, here.within)) e))
+      ∙ ap (wrong_row rule here.m (entry_for last) k n (node_at rule k))
+      (ap (unpack here.m) e ∙ sym (past_form here.m ws (here.first + n) (omega (arith, here.within)))
+      ∙ ap (λ x. form_in here.m (past_in here.m ws) (x + n)) t.before.starts)
 
 -- the parameters of a record, as bits
 own_bits : (first own p : ℕ) → bit ((2 ^ own - 1) * 2 ^ first) p ≡ (leb first p && ltb p (first + own))
@@ -79,11 +83,11 @@ own_bits first own p =
     (less_or_not p first)
 
 -- what rows of the next record may name
-module _ (here : Here) (m : ℕ) (placed : Placed m here) where
+module _ (here : Here) where
   pub widen_kept : looks_forward (node_for here.record) ≡ false → here.allowed ≡ widened here
   unfolding widened
   widen_kept e =
-      same_bits 12 here.allowed _ placed.bits (of_bits_lt 12 _)
+      same_bits 12 here.allowed _ here.bits (of_bits_lt 12 _)
       (λ p h. sym (bit_of_bits 12 _ p h ∙ rw e (or-false (bit here.allowed p))))
 
   pub widen_own : looks_forward (node_for here.record) ≡ true
@@ -94,7 +98,7 @@ module _ (here : Here) (m : ℕ) (placed : Placed m here) where
       (ap (λ x. ((x - 1) * 2 ^ here.first) % 2 ^ 64) (one_shl here.count (omega arith))
       ∙ shl_exact here.count here.first 64 less (omega arith))
       ∙ same_bits 12 (bit_or here.allowed own) _
-      (or_lt 12 here.allowed own placed.bits
+      (or_lt 12 here.allowed own here.bits
       (lt_of_lt_of_le (shl_lt here.count here.first less)
       (pow_mono {i = here.count + here.first} {j = 12} (omega arith))))
       (of_bits_lt 12 _)
@@ -103,7 +107,7 @@ module _ (here : Here) (m : ℕ) (placed : Placed m here) where
       ∙ sym (bit_of_bits 12 _ p u ∙ rw looks))
     where
       within : here.first + here.count ≤ 12
-      within = omega (arith, placed.few, placed.within)
+      within = omega (arith, here.few, here.within)
 
       own : ℕ
       own = (2 ^ here.count - 1) * 2 ^ here.first
@@ -145,23 +149,30 @@ before_next rule k here allowed t e =
 
 -- the records of a plan's rule
 module _ (list : List ℕ) (plan : Plan) where
-  pub tells : (k : ℕ) (here : Here) → k < plan.records → node_for here.record ≡ node_in list k
-      → here.count ≡ count (node_in list k) → Before (rule_for list plan) k here.first here.allowed
+  pub tells : (n k : ℕ) (here : Here) → n ≡ k → Given list plan.records k here.record here.first
+      → here.count ≡ count (node_for here.record) → here.allowed ≡ of_bits 12 (forward (rule_for list plan) n)
       → Tells (rule_for list plan) k here
-  tells k here h node counts before =
-      let e = sym (node_in_lem list plan.records k h) in
-      record { node = node ∙ e; counts = counts ∙ ap count e; before = before }
-
-  pub placed : Sound list plan → (k : ℕ) (here : Here) → k < plan.records → Tells (rule_for list plan) k here
-      → Placed plan.m here
-  unfolding first_of
-  placed sound k here h t =
+  tells n k here e given counts allows =
+      let node : node_for here.record ≡ node_at (rule_for list plan) k =
+      record_node list k here.record given.read ∙ sym (node_in_lem list plan.records k given.less) in
       record {
-        few = omega (arith, sound.few, sound.room);
-        within =
-            omega (arith, t.before.starts, t.counts, sound.own, first_of_fits (rule_for list plan) (suc k));
-        bits = subst (λ x. x < 2 ^ 12) (sym t.before.allows) (of_bits_lt 12 _);
+        node = node;
+        counts = counts ∙ ap count node;
+        before =
+            record {
+              starts = given.begins;
+              allows = allows ∙ ap (λ x. of_bits 12 (forward (rule_for list plan) x)) e;
+            };
       }
+
+  pub placed : Sound list plan → (n k first c allowed : ℕ) (d : Record) → Given list plan.records k d first
+      → c ≡ count (node_for d) → allowed ≡ of_bits 12 (forward (rule_for list plan) n)
+      → (plan.m ≤ 12) × (first + c ≤ plan.m) × (allowed < 2 ^ 12)
+  placed sound n k first c allowed d given counts allows = (
+    omega (arith, sound.few, sound.room),
+    block_fits list plan sound k first c d given counts,
+    subst (λ x. x < 2 ^ 12) (sym allows) (of_bits_lt 12 _),
+  )
 
   -- a wrong record is found, or there is none
   module _ (e : Entry) (past : List (Form plan.m)) where

@@ -14,14 +14,16 @@ use Rattle.meaning.specs.Rule.{node_at, count, first_of}
 use Rattle.meaning.specs.Rewriting.{forms_of}
 use Rattle.meaning.proofs.Blocks.{first_of_fits}
 use Rattle.rewriting.specs.declared.row.Row.{Row}
+use Rattle.rewriting.specs.declared.step.Record.{Record}
 use Rattle.rewriting.specs.declared.step.Step.{Step}
 use Rattle.std.specs.Prelude.{Option}
 use Rattle.rewriting.specs.declared.step.Plan.{Plan}
 use Rattle.rewriting.specs.declared.step.Moment.{Moment}
-use Rattle.rewriting.specs.Decode.{node_in, node_for, record_in}
+use Rattle.rewriting.specs.Decode.{node_in, node_for}
 use Rattle.rewriting.specs.Known.{words_for}
 use Rattle.rewriting.specs.Plans.{rule_for, entry_for, Sound, form_row}
 use Rattle.rewriting.specs.inside.Steps.{Are, neighbour_of, entry_in, own_at, other_at, row_by, made_of}
+use Rattle.rewriting.specs.inside.Listed.{Given}
 use Rattle.rewriting.specs.inside.Walks.{step_in, Apart, made_row, Puts, table_of, rows_for}
 use Rattle.rewriting.proofs.Counting.{first_of_rule, parameters_done}
 use Rattle.rewriting.proofs.Making.{own_room, rows_apart, length_table, table_more, table_made}
@@ -36,16 +38,18 @@ first_fits list plan sound k first e = (
   omega (arith, sound.own, first_of_fits (rule_for list plan) k, e, sound.few, sound.room),
 )
 
--- a step's parameters are those of its record of the rule
-pub step_count : (list : List ℕ) (k first m : ℕ) (here : Moment) (near : Option ℕ) (few : m ≤ 12) (within : first ≤ 12)
-    (step : Step) (n : ℕ) → step ≡ step_in list k first m here near few within
-    → n ≡ count (node_for step.record) → n ≡ count (node_in list k)
-step_count list k first m here near few within step n is e =
-    record_count list k step.record (ap (λ (s : Step). s.record) is) n e
-
 -- the c parameters of record k of the rule begin at first
-module _ (list : List ℕ) (plan : Plan) (sound : Sound list plan) (k first c : ℕ) (less : k < plan.records)
-    (begins : first ≡ first_of (rule_for list plan) k) (counted : c ≡ count (node_in list k)) where
+module _ (list : List ℕ) (plan : Plan) (sound : Sound list plan) (k first c : ℕ) (d : Record)
+    (given : Given list plan.records k d first) (counted : c ≡ count (node_for d)) where
+  less : k < plan.records
+  less = given.less
+
+  begins : first ≡ first_of (rule_for list plan) k
+  begins = given.begins
+
+  counts : c ≡ count (node_in list k)
+  counts = record_count list k d given.read c counted
+
   -- they are among the rule's
   pub block_fits : first + c ≤ plan.m
   block_fits =
@@ -55,16 +59,20 @@ module _ (list : List ℕ) (plan : Plan) (sound : Sound list plan) (k first c : 
         first_of_fits (rule_for list plan) (k + 1),
         first_of_rule list plan.records k less,
         begins,
-        counted,
+        counts,
       )
 
+  -- behind them those of the next record begin
+  pub block_next : first + c ≡ first_of (rule_for list plan) (k + 1)
+  block_next = omega (arith, begins, counts, first_of_rule list plan.records k less)
+
   count_is : c ≡ count (node_at (rule_for list plan) k)
-  count_is = counted ∙ ap count (sym (node_in_lem list plan.records k less))
+  count_is = counts ∙ ap count (sym (node_in_lem list plan.records k less))
 
   module _ (here : Moment) (near : Option ℕ) (narrow : plan.m ≤ 12) (within : first ≤ 12) (step : Step)
-      (is : step ≡ step_in list k first plan.m here near narrow within) where
-    node_is : node_for (record_in list k) ≡ node_at (rule_for list plan) k
-    node_is = record_node list k (record_in list k) refl ∙ sym (node_in_lem list plan.records k less)
+      (is : step ≡ step_in d first plan.m here near narrow within) where
+    node_is : node_for d ≡ node_at (rule_for list plan) k
+    node_is = record_node list k d given.read ∙ sym (node_in_lem list plan.records k less)
 
     -- what the loops over its shifts ask for: the scratch comes after the past rows
     pub step_ready : (held : ℕ) → held ≤ plan.m → Apart step c (plan.places + 1) held
@@ -97,7 +105,7 @@ module _ (list : List ℕ) (plan : Plan) (sound : Sound list plan) (k first c : 
         let forms : List (Form m) = forms_of m rule k in
         let own : List (Form m) = table_of row m rule other e nb k in
         let rows : ℕ → List ℕ = form_row m (rows_for row list plan here near other) in
-        let made = made_row row (step_in list k first m here near narrow within) own other forms in
+        let made = made_row row (step_in d first m here near narrow within) own other forms in
         wrote_block ws base rows first c (base + first) made area next w refl
         (subst (λ s. Puts row s c before area scratch held next) is puts own other forms
         (record {

@@ -15,9 +15,12 @@ use Rattle.forms.proofs.Areas.{row_put, row_kept, put_rows_none, put_rows_more, 
 use Rattle.rewriting.specs.Plans.{form_row}
 
 module _ (ws : List ℕ) (base : ℕ) (g : ℕ → List ℕ) where
-  -- no row yet, one row more, a block more, all rows
+  -- no row yet, as many rows, one row more, a block more, all rows
   pub wrote_none : ws ≡ put_rows ws base 0 g
   wrote_none = sym (put_rows_none ws base g)
+
+  pub wrote_as : (n k : ℕ) (area : List ℕ) → n ≡ k → area ≡ put_rows ws base n g → area ≡ put_rows ws base k g
+  wrote_as n k area e w = w ∙ ap (λ x. put_rows ws base x g) e
 
   pub wrote_more : (n at : ℕ) (area next row : List ℕ) → area ≡ put_rows ws base n g → at ≡ base + n
       → next ≡ put_rows area at 1 (λ _. row) → row ≡ g n → next ≡ put_rows ws base (n + 1) g

@@ -2,4 +2,5 @@
 pub mod Steps
 pub mod Walks
 pub mod Endings
+pub mod Listed
 pub mod Shapes

@@ -7,7 +7,7 @@ ghost use Rattle.rewriting.specs.Clauses.{ValueIfLastClause, CloseClause, BeginC
 
 use crate::kind::Kind;
 use crate::parts::signal;
-use crate::rule::{Tabled, count_of};
+use crate::rule::{Records, Tabled, count_of};
 use crate::step::{Moment, Plan, Step};
 use crate::walk::step_at;
 use forms::area::{Rows, clear, load, store};
@@ -50,8 +50,7 @@ fn end_values(step: Step, count: usize, forms: Rows<'_>, past: Rows<'_>, setting
     grown
 }
 
-// The setting of a rule's parameters, were this the last record. It counts along where they begin, as the loops of
-// `walk` do.
+// The setting of a rule's parameters, were this the last record.
 fn last_setting(tabled: Tabled<'_, '_>, last: Moment, area: &[u64]) -> usize
     requires { Tidy tabled.rule.plan.places tabled.rule.plan.m area.now }
     ensures { let rule = tabled.entry.rule in
@@ -64,17 +63,15 @@ fn last_setting(tabled: Tabled<'_, '_>, last: Moment, area: &[u64]) -> usize
         count: plan.m,
     };
     let mut setting: usize = 0;
-    let mut first: usize = 0;
-    for k in 0..plan.records {
-        let step = step_at(tabled.rule.list, k, first, plan.m, last, None);
-        let count = count_of(step.record);
+    for (k, record, first) in Records::of(tabled.rule.list, plan.records) {
+        let step = step_at(record, first, plan.m, last, None);
+        let count = count_of(record);
         let before = Rows {
             area: tabled.forms,
             base: 0,
             count: k,
         };
         setting = end_values(step, count, before, past, setting);
-        first += count;
     }
     setting
 }
@@ -89,7 +86,8 @@ pub fn value_if_last(tabled: Tabled<'_, '_>, last: Moment, area: &[u64]) -> bool
     value(load(area, tabled.rule.plan.places), setting)
 }
 
-// Closing with a value: the past rows stay, and the remainder is that constant.
+// Closing with a value: the past rows stay, and the remainder is that constant. It takes a plan alone: neither list nor
+// forms are looked at.
 pub fn close(plan: Plan, b: bool, area: &mut [u64])
     requires { (plan.places ≤ 12) × Tidy plan.places plan.m area.old }
     ensures { CloseClause plan b area.old area.new }

@@ -8,7 +8,8 @@ use forms::area::Rows;
 use forms::join::and;
 use forms::rows::{constant, parameter, xor};
 
-// The form of a record, with its first parameter, from the forms of the records before it.
+// The form of a record, with its first parameter, from the forms of the records before it. That m is at most 12, the
+// parameters that a row has room for, stays a clause of a number.
 pub(crate) fn form_row(record: Record, first: usize, m: usize, forms: Rows<'_>) -> [u64; 64]
     requires { m ≤ 12 }
     ensures { OfRecord «record» first m forms.entry result }

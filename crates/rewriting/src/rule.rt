@@ -1,5 +1,8 @@
 // A rule, the records of its list, and how many parameters it has.
+ghost use Rattle.std.specs.Prelude.{◌-◌, ◌≤◌};
+ghost use Rattle.std.specs.Iterator.{at_most};
 ghost use Rattle.rewriting.specs.Plans.{Sound, HoldsForms};
+ghost use Rattle.rewriting.specs.inside.Listed.{Counted, Gives, Starts};
 ghost use Rattle.rewriting.specs.Clauses.{ByteOfClause, RecordAtClause, CountOfClause, ParametersInClause};
 
 use crate::interval::shifts;
@@ -75,4 +78,54 @@ pub fn parameters_in(list: &[u8], n: usize) -> usize
         sum += count_of(record_at(list, k));
     }
     sum
+}
+
+// The records of a rule that are left, from record k on, whose parameters begin at first.
+#[derive(Drop)]
+pub(crate) struct Records<'a> {
+    list: &'a [u8],
+    records: usize,
+    k: usize,
+    first: usize,
+    ghost counted: { Counted list.now records k first },
+}
+
+impl<'a> Records<'a> {
+    // All records of a rule.
+    pub(crate) fn of(list: &'a [u8], records: usize) -> Records<'a>
+        requires { records ≤ 64 }
+        ensures { Starts list.now records result.list.now result.records result.k }
+    {
+        Records {
+            list,
+            records,
+            k: 0,
+            first: 0,
+        }
+    }
+}
+
+// Each record with its number and where its parameters begin.
+impl<'a> Iterator for Records<'a> {
+    type Item = (usize, Record, usize);
+
+    ghost next_gives = { λ s o t. Gives s.list.now s.records s.k o t.list.now t.records t.k };
+
+    ghost remaining = { λ s. at_most (s.records - s.k) };
+
+    fn next(&mut self) -> Option<(usize, Record, usize)> {
+        let k = self.k;
+        if k >= self.records {
+            return None;
+        }
+        let first = self.first;
+        let record = record_at(self.list, k);
+        *self = Records {
+            list: self.list,
+            records: self.records,
+            k: k + 1,
+            first: first + count_of(record),
+        };
+        Some((k, record, first))
+    }
 }

@@ -1,6 +1,5 @@
-// The loops over a rule's records: their forms into a table, their rows into an area. Each counts along where the
-// parameters of a record begin: it writes into what it is lent at each turn, and of a fold's or an iterator's closure
-// that does so a proof would know nothing.
+// The loops over a rule's records: their forms into a table, their rows into an area. They stay loops: each turn writes
+// into what the function is lent, and of a closure that does so a proof would know nothing.
 ghost use Rattle.std.specs.Prelude.{◌≡◌, ◌*◌, ◌≤◌, length};
 ghost use Rattle.rewriting.specs.Known.{words_for};
 ghost use Rattle.rewriting.specs.inside.Walks.{step_in, Apart, Puts, Walked};
@@ -8,8 +7,8 @@ ghost use Rattle.rewriting.specs.Clauses.{FormsOfClause};
 
 use crate::form::form_row;
 use crate::row::{Row, other_at, own_at, step_row};
-use crate::rule::{Tabled, count_of, record_at};
-use crate::step::{Moment, Step};
+use crate::rule::{Records, Tabled, count_of};
+use crate::step::{Moment, Record, Step};
 use forms::area::{Rows, store};
 
 // The forms of the first `records` records of the rule, in a table.
@@ -17,9 +16,7 @@ pub fn forms_of(list: &[u8], records: usize, m: usize, table: &mut [u64])
     requires { (m ≤ 12) × (records ≤ 64) × (64 * records ≤ length table.old) }
     ensures { FormsOfClause list.now records m table.old table.new }
 {
-    let mut first = 0;
-    for k in 0..records {
-        let record = record_at(list, k);
+    for (k, record, first) in Records::of(list, records) {
         let before = Rows {
             area: table,
             base: 0,
@@ -27,14 +24,12 @@ pub fn forms_of(list: &[u8], records: usize, m: usize, table: &mut [u64])
         };
         let row = form_row(record, first, m, before);
         store(table, k, row);
-        first += count_of(record);
     }
 }
 
-// Record k of the rule, whose parameters begin at first, at a record of the log, with shift 0.
+// A record of the rule, whose parameters begin at first, at a record of the log, with shift 0.
 pub(crate) fn step_at(
-    list: &[u8],
-    k: usize,
+    record: Record,
     first: usize,
     m: usize,
     here: Moment,
@@ -42,9 +37,8 @@ pub(crate) fn step_at(
 ) -> Step
     requires { (m ≤ 12) × (first ≤ 12) }
     ensures { (few : m ≤ 12) × (within : first ≤ 12)
-        × (result ≡ step_in list.now k first m here neighbour few within) }
+        × (result ≡ step_in «record» first m here neighbour few within) }
 {
-    let record = record_at(list, k);
     Step {
         record,
         first,
@@ -100,16 +94,14 @@ pub(crate) fn rule_rows(
     ensures { Walked row tabled.entry.rule.list.now tabled.entry.rule.plan here near held area.old area.new }
 {
     let plan = tabled.rule.plan;
-    let mut first = 0;
-    for k in 0..plan.records {
-        let step = step_at(tabled.rule.list, k, first, plan.m, here, near);
-        let count = count_of(step.record);
+    for (k, record, first) in Records::of(tabled.rule.list, plan.records) {
+        let step = step_at(record, first, plan.m, here, near);
+        let count = count_of(record);
         let before = Rows {
             area: tabled.forms,
             base: 0,
             count: k,
         };
         record_rows(row, step, count, before, area, plan.places + 1, held);
-        first += count;
     }
 }

@@ -102,7 +102,8 @@ fn finish(watcher: Watcher, verdict: Verdict, area: &mut [u64]) -> Ended
 }
 
 impl Watcher {
-    // Would this start be refused, and by which number.
+    // Would this start be refused, and by which number. Rule, signals and area stay parameters: each is lent by itself,
+    // also from C.
     pub fn start_would_refuse(rule: &[u8], signals: &[u8], area: &[u64]) -> Result<(), Refusal>
         ensures { StartWouldRefuseClause rule.now signals.now area.now result }
     {

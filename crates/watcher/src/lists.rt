@@ -101,7 +101,8 @@ pub(crate) fn byte_breaks(list: &[u8], record: Record, k: usize, i: usize) -> bo
     }
 }
 
-// Where a search of records first finds something: the lowest of so many records, and what is found in it.
+// Where a search of records first finds something: the lowest of so many records, and what is found in it. It stays a
+// `for`: of `find_map` the check did not show that what was handed in may be called.
 fn first_place<F: Fn(usize) -> Option<usize>>(records: usize, within: F) -> Option<Place>
     requires { (k : ℕ) → k < records → F.pre within k }
     ensures { (bound : ℕ → ℕ) (test : ℕ → ℕ → Bool)

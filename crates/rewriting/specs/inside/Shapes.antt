@@ -1,5 +1,5 @@
 -- What the check of a running state's rows is made from, and what it asks for.
-use Rattle.std.specs.Prelude.{◌≡◌, Bool, true, ◌&&◌, ◌||◌, List, ℕ, ◌+◌, ◌^◌, ◌≤◌, ◌<◌, leb, ltb}
+use Rattle.std.specs.Prelude.{◌≡◌, Bool, true, ◌&&◌, ◌||◌, List, ℕ, ◌+◌, ◌<◌, leb, ltb}
 use Rattle.ground.specs.Bits.{bit, of_bits}
 use Rattle.forms.specs.Words.{fits}
 use Rattle.forms.specs.Area.{row_at, form_in}
@@ -22,12 +22,6 @@ pub record Tells (rule : List Node) (k : ℕ) (here : Here) : Type 0 where
   pub counts : here.count ≡ count (node_at rule k)
   pub before : Before rule k here.first here.allowed
 
--- its parameters are among m, which a row has room for
-pub record Placed (m : ℕ) (here : Here) : Type 0 where
-  pub few : m ≤ 12
-  pub within : here.first + here.count ≤ m
-  pub bits : here.allowed < 2 ^ 12
-
 -- the parameters that rows of the next record may name
 unfoldable pub widened : Here → ℕ
 widened here =
@@ -41,12 +35,13 @@ abbrev pub Fitting : ℕ → List ℕ → Type 0
 Fitting m ws = (j : ℕ) → j < m → fits m (row_at ws j) ≡ true
 
 -- the answer is whether the row of shift n of the record is wrong
-abbrev pub RowWrong : Here → ℕ → (m : ℕ) → Moment → List ℕ → Bool → Type 0
-RowWrong here n m last ws r =
+abbrev pub RowWrong : Here → ℕ → Moment → List ℕ → Bool → Type 0
+RowWrong here n last ws r =
     (rule : List Node) (k : ℕ) → Tells rule k here
-    → r ≡ wrong_row rule m (entry_for last) k n (node_at rule k) (form_in m (past_in m ws) (first_of rule k + n))
+    → r ≡ wrong_row rule here.m (entry_for last) k n (node_at rule k)
+    (form_in here.m (past_in here.m ws) (first_of rule k + n))
 
 -- the answer is whether one of the record's rows is wrong
-abbrev pub RecordWrong : Here → (m : ℕ) → Moment → List ℕ → Bool → Type 0
-RecordWrong here m last ws r =
-    (rule : List Node) (k : ℕ) → Tells rule k here → r ≡ wrong_at rule m (entry_for last) (past_in m ws) k
+abbrev pub RecordWrong : Here → Moment → List ℕ → Bool → Type 0
+RecordWrong here last ws r =
+    (rule : List Node) (k : ℕ) → Tells rule k here → r ≡ wrong_at rule here.m (entry_for last) (past_in here.m ws) k

@@ -8,20 +8,21 @@ use Rattle.forms.specs.declared.area.Rows.{Rows}
 use Rattle.meaning.specs.Rule.{Node, Entry}
 use Rattle.meaning.specs.Rewriting.{derived_rows, past_rows}
 use Rattle.meaning.specs.Rewriting as rewriting
-use Rattle.rewriting.specs.Decode.{record_in, node_for}
+use Rattle.rewriting.specs.Decode.{node_for}
 use Rattle.rewriting.specs.Plans.{form_row, rule_for, entry_for}
 use Rattle.rewriting.specs.inside.Steps.{neighbour_of, own_at, other_at, Kept, Are, made_of}
 use Rattle.rewriting.specs.declared.row.Row.{Row}
 use Rattle.rewriting.specs.declared.row.Row.TheVariants.{Derived, Past}
+use Rattle.rewriting.specs.declared.step.Record.{Record}
 use Rattle.rewriting.specs.declared.step.Step.{Step}
 use Rattle.rewriting.specs.declared.step.Plan.{Plan}
 use Rattle.rewriting.specs.declared.step.Moment.{Moment}
 
--- record k of the rule, whose parameters begin at first, at a record of the log, with shift 0
-abbrev pub step_in : List ℕ → (k first m : ℕ) → Moment → Option ℕ → m ≤ 12 → first ≤ 12 → Step
-step_in list k first m here near few within =
+-- a record of the rule, whose parameters begin at first, at a record of the log, with shift 0
+abbrev pub step_in : Record → (first m : ℕ) → Moment → Option ℕ → m ≤ 12 → first ≤ 12 → Step
+step_in d first m here near few within =
     record {
-      «record» = record_in list k;
+      «record» = d;
       first = first;
       shift = 0;
       m = m;

@@ -1,75 +1,74 @@
 -- `walk::rule_rows` meets its contract: the rows of the first `k` records are in their places.
-use mathlib.Core.Path.{refl}
-use native.Mathlib.Omega.{arith}
-use borrow.Author.Rules.{rules}
+use Rattle.std.proofs.Common.{refl, ap, sym, ◌∙◌, arith, rules}
 use Rattle.meaning.specs.Rule.{first_of}
-use Rattle.rewriting.proofs.Counting.{first_of_rule}
-use Rattle.rewriting.proofs.Walking.{first_fits, step_count, block_fits, step_ready, rows_block, walked_all}
+use Rattle.rewriting.specs.Plans.{rule_for}
+use Rattle.rewriting.proofs.Listing.{started, gave}
+use Rattle.rewriting.proofs.Walking.{first_fits, block_next, step_ready, rows_block, walked_all}
 use Rattle.rewriting.proofs.Tables.{forms_held}
-use Rattle.rewriting.proofs.Written.{wrote_none}
+use Rattle.rewriting.proofs.Written.{wrote_none, wrote_as}
 use Rattle.rewriting.proofs.walk.rule_rows.Goals as goal
 
 pub loop-k-init : goal.loop-k-init
 unfolding first_of
-loop-k-init c = (search rules, search rules, refl, λ other ho. wrote_none _ _ _)
+loop-k-init c =
+    let all =
+    started _ _ _ _ c.into_iter-k-iterator.ensures.into_iter_gives c.of-k-items.ensures in
+    let rule = c.args.tabled.rule in (
+      tt,
+      tt,
+      all.0,
+      all.1,
+      refl,
+      λ other ho.
+          wrote_as _ _ _ 0 _ _ (ap (first_of (rule_for rule.list.now rule.plan)) (sym all.2))
+          (wrote_none _ _ _),
+    )
 
 pub step_at-step-requires : goal.step_at-step-requires
 step_at-step-requires c =
     let rule = c.args.tabled.rule in
-    first_fits rule.list.now rule.plan rule.sound _ _ c.loop-k.invariant.1
+    let p = c.loop-k.invariant in
+    let g = gave _ _ _ _ _ p.2 p.3 _ _ _ _ _ _ c.in-Some.ensures.steps in
+    first_fits rule.list.now rule.plan rule.sound _ _ g.2.1.begins
 
 pub record_rows-requires : goal.record_rows-requires
 record_rows-requires c =
     let a = c.args in
     let rule = a.tabled.rule in
-    let here = c.loop-k in
-    let is = c.step_at-step.ensures.2 in
-    step_ready rule.list.now rule.plan rule.sound here.k here.first _
-    c.loop-k-test.true here.invariant.1
-    (step_count rule.list.now here.k _ _ a.here a.near _ _ _ _ is c.count_of-count.ensures.0)
-    a.here a.near _ _ _ is a.held c.requires.1
-
-pub overflow_add-first : goal.overflow_add-first
-overflow_add-first c =
-    let here = c.loop-k in
-    let a = c.args in
-    let rule = a.tabled.rule in
-    let sound = rule.sound in
-    let is = c.step_at-step.ensures.2 in
-    omega (
-      arith,
-      block_fits rule.list.now rule.plan sound here.k here.first _
-          c.loop-k-test.true here.invariant.1
-          (step_count rule.list.now here.k _ _ a.here a.near _ _ _ _ is
-          c.count_of-count.ensures.0),
-      sound.few,
-      sound.room,
-    )
+    let p = c.loop-k.invariant in
+    let g = gave _ _ _ _ _ p.2 p.3 _ _ _ _ _ _ c.in-Some.ensures.steps in
+    step_ready rule.list.now rule.plan rule.sound _ _ _ _ g.2.1 c.count_of-count.ensures.0 a.here a.near _ _ _
+    c.step_at-step.ensures.2 a.held c.requires.1
 
 pub loop-k-preserved : goal.loop-k-preserved
 loop-k-preserved c =
     let a = c.args in
     let rule = a.tabled.rule in
-    let here = c.loop-k in
-    let less = c.loop-k-test.true in
-    let read = c.step_at-step.ensures.2 in
-    let counted = step_count rule.list.now here.k _ _ a.here a.near _ _ _ _ read
-    c.count_of-count.ensures.0 in
-    let more = first_of_rule rule.list.now rule.plan.records here.k less in (
-      search rules,
-      omega arith,
+    let p = c.loop-k.invariant in
+    let g = gave _ _ _ _ _ p.2 p.3 _ _ _ _ _ _ c.in-Some.ensures.steps in
+    let given = g.2.1 in
+    let counted = c.count_of-count.ensures.0 in
+    let begin = first_of (rule_for rule.list.now rule.plan) in (
+      tt,
+      tt,
+      g.0,
+      g.1,
       search rules,
       λ other ho.
-          rows_block rule.list.now rule.plan rule.sound here.k here.first _ less here.invariant.1 counted
-          a.here a.near _ _ _ read a.row a.held other
-          (record { area = a.tabled.forms; base = 0; count = here.k }) _ _ _
-          (forms_held _ _ here.k rule.plan.records a.tabled.forms.now (omega arith) a.tabled.holds) c.requires.0
-          c.requires.1 ho (here.invariant.3 other ho) c.record_rows.ensures,
+          wrote_as _ _ _ _ _ _
+          (block_next rule.list.now rule.plan rule.sound _ _ _ _ given counted ∙ ap begin (sym g.2.2))
+          (rows_block rule.list.now rule.plan rule.sound _ _ _ _ given counted a.here a.near _ _ _
+          c.step_at-step.ensures.2 a.row a.held other
+          (record { area = a.tabled.forms; base = 0; count = c.in-Some.k }) _ _ _
+          (forms_held _ _ c.in-Some.k rule.plan.records a.tabled.forms.now (omega (arith, given.less)) a.tabled.holds)
+          c.requires.0 c.requires.1 ho
+          (wrote_as _ _ _ _ _ _ (ap begin g.2.0 ∙ sym given.begins) (p.5 other ho)) c.record_rows.ensures),
     )
 
 pub returns : goal.returns
 returns c other ho =
     let rule = c.args.tabled.rule in
-    let here = c.loop-k in
-    walked_all rule.list.now rule.plan here.k _ _ _ _ _ rule.sound here.invariant.1
-    here.invariant.0 c.loop-k-test.false (here.invariant.3 other ho)
+    let p = c.loop-k.invariant in
+    let left = c.loop-k.k-iterator in
+    walked_all rule.list.now rule.plan left.k _ _ _ _ _ rule.sound refl (omega (arith, left.counted.reached, p.3))
+    (omega (arith, c.in-None.ensures.steps.2, p.3)) (p.5 other ho)

@@ -1,4 +1,4 @@
--- `shape::record_wrong` looks at the row of each shift.
+-- `shape::Here::record_wrong` looks at the row of each shift.
 use mathlib.Core.Path.{refl, ap, ◌∙◌}
 use borrow.Author.Rules.{rules}
 use Prim.Native.Nat.{ℕ, ◌+◌}
@@ -9,12 +9,12 @@ use Rattle.rewriting.specs.Known.{past_in}
 use Rattle.rewriting.specs.Plans.{entry_for}
 use Rattle.rewriting.specs.Shape.{wrong_row}
 use Rattle.rewriting.proofs.Ranges.{any_range}
-use Rattle.rewriting.proofs.shape.record_wrong.Goals as goal
+use Rattle.rewriting.proofs.shape.Here.record_wrong.Goals as goal
 
 pub returns : goal.returns
 returns c rule k t =
     let a = c.args in
-    let test = λ (n : ℕ). wrong_row rule a.m (entry_for a.last) k n (node_at rule k)
-    (form_in a.m (past_in a.m a.area.now) (first_of rule k + n)) in
-    any_range test a.here.count _ _ _ _ refl c.any.ensures.ran (λ x b q call. search rules)
+    let test = λ (n : ℕ). wrong_row rule a.self.m (entry_for a.last) k n (node_at rule k)
+    (form_in a.self.m (past_in a.self.m a.area.now) (first_of rule k + n)) in
+    any_range test a.self.count _ _ _ _ refl c.any.ensures.ran (λ x b q call. search rules)
     ∙ ap (λ n. some n test) t.counts
