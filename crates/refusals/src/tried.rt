@@ -6,7 +6,8 @@ use watcher::state::{Refusal, Verdict, Watcher};
 // What a call says: a refusal, or how the log ends, where the call is one that asks or closes.
 pub(crate) type Said = Result<Option<Verdict>, Refusal>;
 
-// The number that is told of it: the refusal's own, or one above those of the refusals for a verdict, or 0.
+// The number that is told of it: the refusal's own, or one above those of the refusals for a verdict, or 0. Answers are
+// held to one another by it, since a line of a difference prints it.
 fn number(said: Said) -> usize {
     match said {
         Ok(None) => 0,

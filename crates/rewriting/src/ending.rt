@@ -50,7 +50,8 @@ fn end_values(step: Step, count: usize, forms: Rows<'_>, past: Rows<'_>, setting
     grown
 }
 
-// The setting of a rule's parameters, were this the last record.
+// The setting of a rule's parameters, were this the last record. A turn begins as one of `walk` does, and what it makes
+// of a record differs.
 fn last_setting(tabled: Tabled<'_, '_>, last: Moment, area: &[u64]) -> usize
     requires { Tidy tabled.rule.plan.places tabled.rule.plan.m area.now }
     ensures { let rule = tabled.entry.rule in

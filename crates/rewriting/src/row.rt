@@ -24,7 +24,7 @@ pub(crate) fn own_at(row: Row, scratch: usize) -> usize
     }
 }
 
-// The place from which on the others stand.
+// The place from which on the others stand; it is `own_at` turned round, and no shorter by it.
 pub(crate) fn other_at(row: Row, scratch: usize) -> usize
     ensures { result ≡ other_at row scratch }
 {

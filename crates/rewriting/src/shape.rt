@@ -17,7 +17,7 @@ use crate::step::{Moment, Record};
 use forms::area::load;
 use forms::rows::{constant, fits, names, parameter};
 
-// A record of a rule of m parameters: its first one, how many it has, and those that its rows may name, as bits.
+// A record of a rule of m parameters: where its own begin, how many it has, and those that its rows may name, as bits.
 #[derive(Clone, Copy)]
 pub(crate) struct Here {
     pub(crate) record: Record,

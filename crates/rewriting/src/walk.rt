@@ -1,5 +1,5 @@
-// The loops over a rule's records: their forms into a table, their rows into an area. They stay loops: each turn writes
-// into what the function is lent, and of a closure that does so a proof would know nothing.
+// The loops over a rule's records: their forms into a table, their rows into an area. They stay loops: each writes into
+// what it is lent at every turn.
 ghost use Rattle.std.specs.Prelude.{◌≡◌, ◌*◌, ◌≤◌, length};
 ghost use Rattle.rewriting.specs.Known.{words_for};
 ghost use Rattle.rewriting.specs.inside.Walks.{step_in, Apart, Puts, Walked};
@@ -27,7 +27,8 @@ pub fn forms_of(list: &[u8], records: usize, m: usize, table: &mut [u64])
     }
 }
 
-// A record of the rule, whose parameters begin at first, at a record of the log, with shift 0.
+// A record of the rule, whose parameters begin at first, at a record of the log, with shift 0. What it asks is what a
+// step keeps.
 pub(crate) fn step_at(
     record: Record,
     first: usize,

@@ -102,7 +102,7 @@ pub(crate) fn byte_breaks(list: &[u8], record: Record, k: usize, i: usize) -> bo
 }
 
 // Where a search of records first finds something: the lowest of so many records, and what is found in it. It stays a
-// `for`: of `find_map` the check did not show that what was handed in may be called.
+// `for`: `find_map` was tried, and the check did not show that what was handed in may be called.
 fn first_place<F: Fn(usize) -> Option<usize>>(records: usize, within: F) -> Option<Place>
     requires { (k : ℕ) → k < records → F.pre within k }
     ensures { (bound : ℕ → ℕ) (test : ℕ → ℕ → Bool)
