@@ -1,8 +1,7 @@
 // The watcher call by call, with its state in lent bytes.
-ghost use Rattle.std.specs.Prelude.{◌≡◌, length, cond, None, Some};
-ghost use Rattle.port.specs.Codes.{told_code};
-ghost use Rattle.port.specs.Layout.{state_bytes, written, state_in};
-ghost use Rattle.port.specs.Exports.{wrong_state, kept_unless};
+ghost use Rattle.std.specs.Prelude.{◌≡◌, List, ℕ, length, cond, None, Some};
+ghost use Rattle.port.specs.Layout.{state_bytes, state_in};
+ghost use Rattle.port.specs.Exports.{wrong_state, told_bytes};
 ghost use Rattle.port.specs.Clauses.{StartClause, WouldRefuseClause, FeedClause};
 ghost use Rattle.port.specs.Clauses.{AskClause, CloseClause, HorizonClause};
 
@@ -44,11 +43,10 @@ pub fn hunchcold_would_refuse(bytes: &[u8], piece: &[u8], area: &[u64]) -> u8
 }
 
 // The code of what is told; the next state is written unless that is a refusal.
-#[tactic(auto, unfolding(crate::specs::Exports::kept_unless))]
+#[tactic(auto, unfolding(crate::specs::Exports::told_bytes, crate::specs::Exports::kept_unless))]
 fn write_told(told: Result<Word, Refusal>, next: Watcher, bytes: &mut [u8]) -> u8
     requires { length bytes.old ≡ state_bytes }
-    ensures { (result ≡ told_code told)
-        × (bytes.new ≡ kept_unless told (written next) bytes.old) }
+    ensures { (ws : List ℕ) → (result, bytes.new, ws) ≡ told_bytes told next ws bytes.old }
 {
     if told.is_ok() {
         write_state(next, bytes);
@@ -57,7 +55,7 @@ fn write_told(told: Result<Word, Refusal>, next: Watcher, bytes: &mut [u8]) -> u
 }
 
 // Feed one record.
-#[tactic(auto, unfolding(crate::specs::Exports::feed_bytes, crate::specs::Exports::fed_bytes, crate::specs::Exports::told_bytes, crate::specs::Exports::wrong_state))]
+#[tactic(auto, unfolding(crate::specs::Exports::feed_bytes, crate::specs::Exports::fed_bytes, crate::specs::Exports::wrong_state))]
 pub fn hunchcold_feed(bytes: &mut [u8], piece: &[u8], area: &mut [u64]) -> u8
     ensures { FeedClause bytes.old piece.now area.old
         (result, bytes.new, area.new) }
@@ -78,7 +76,7 @@ pub fn hunchcold_ask(bytes: &[u8], area: &[u64]) -> u8
 }
 
 // Close the log.
-#[tactic(auto, unfolding(crate::specs::Exports::close_bytes, crate::specs::Exports::ended_bytes, crate::specs::Exports::told_bytes, crate::specs::Exports::wrong_state))]
+#[tactic(auto, unfolding(crate::specs::Exports::close_bytes, crate::specs::Exports::ended_bytes, crate::specs::Exports::wrong_state))]
 pub fn hunchcold_close(bytes: &mut [u8], area: &mut [u64]) -> u8
     ensures { CloseClause bytes.old area.old (result, bytes.new, area.new) }
 {

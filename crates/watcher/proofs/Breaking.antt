@@ -26,7 +26,7 @@ use Rattle.watcher.specs.Numbers.{Stage, fresh, running, closed, stage_of}
 use Rattle.watcher.specs.State.{rule_of, parameters_of, start_refuses, not_zeros_behind, signals_above}
 use Rattle.watcher.specs.State.{wrong_in_phase, broken_state}
 use Rattle.watcher.proofs.Decoded.{neither}
-use Rattle.watcher.proofs.HeldLaws.{held_some, held_most, held_few}
+use Rattle.watcher.proofs.HeldLaws.{held_some, held_most, held_few, held_listed}
 
 -- the rows that a state must have, by its stage: a fresh one no past row at all
 pub fresh_rows : (w : Watcher) (m : ℕ) (remainder : Form m)
@@ -73,6 +73,26 @@ pub own_parameters : (w : Watcher) (m : ℕ) → start_refuses w ≡ false
     → m ≡ parameters (rule_in w.rule (min w.records 64)) → m ≡ parameters_of w
 unfolding parameters_of rule_of
 own_parameters w m a e = counts_all w.rule w.records m (omega (arith, held_most w a)) e
+
+-- the rows of a fresh, of a running and of a closed state, with m as its parameters are counted
+module _ (w : Watcher) (ws : List ℕ) where
+  pub wrong_fresh : wrong_in_phase w ws fresh ≡ not_zero_from most_parameters 0 ws
+  unfolding wrong_in_phase
+  wrong_fresh = refl
+
+  pub wrong_running : (e : Entry) (m : ℕ) → m ≡ parameters_of w
+      → wrong_in_phase w ws (running e) ≡ wrong_rows (rule_in w.rule w.records) m e (past_in m ws)
+  unfolding wrong_in_phase rule_of
+  wrong_running e m own = rw own refl
+
+  pub wrong_closed : (b : Bool) → wrong_in_phase w ws (closed b) ≡ false
+  unfolding wrong_in_phase
+  wrong_closed b = refl
+
+-- what the check of a state needs of its lists and of its rows, by name
+pub ruleset own_lists = (held_most, held_listed, own_parameters)
+
+pub ruleset own_rows = (wrong_fresh, wrong_running, wrong_closed)
 
 -- the tests, in the definition's order
 module _ (w : Watcher) (ws : List ℕ) where

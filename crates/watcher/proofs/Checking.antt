@@ -2,8 +2,7 @@
 -- Assumes nothing.
 use mathlib.Core.Path.{◌≡◌, ap, sym, ◌∙◌, refl}
 use mathlib.Core.List.{List, []}
-use Prim.Native.Nat.{ℕ, suc, ◌+◌, ◌*◌, ◌/◌, ◌≤◌, ◌<◌, zero}
-use native.Mathlib.Nat.{mul-suc, mul-le-mul_left, mul-div-le}
+use Prim.Native.Nat.{ℕ, suc, ◌+◌, ◌*◌, ◌≤◌, ◌<◌, zero}
 use native.Mathlib.Omega.{arith}
 use borrow.Author.Tests.{eq-eqb, eqb-true, leb-false}
 use lib.Dec.{eqb, leb}
@@ -90,12 +89,6 @@ no_signal (Other byte) n e = go (leb byte 9) refl e
 pub records_few : (list : List ℕ) (n : ℕ) → n ≡ records_of list → length list ≤ list_bytes → n ≤ most_records
 unfolding records_of
 records_few list n e h = omega arith
-
--- a record that a list has lies inside it
-pub record_inside : (size i n : ℕ) → i < n / size → size * i + size ≤ n
-record_inside size i n h =
-    let most : size * suc i ≤ size * (n / size) = mul-le-mul_left size h in
-    omega (arith, most, mul-div-le n size, mul-suc size i)
 
 -- two parts of a list are equal where each byte of the one is that of the other
 module _ (list : List ℕ) (size : ℕ) where

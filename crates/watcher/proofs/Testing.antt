@@ -8,17 +8,19 @@ use Prim.Native.Nat.{ℕ, ◌^◌, ◌<◌}
 use lib.ListN.{length, get_or}
 use borrow.Author.Tests.{eq-eqb, eqb-true, not-false}
 use Rattle.watcher.specs.declared.state.Refusal.{Refusal}
-use Rattle.watcher.specs.declared.state.Refusal.TheVariants.{AreaLength}
+use Rattle.watcher.specs.declared.state.Refusal.TheVariants.{RuleParameters, SignalList, SignalMissing, AreaLength}
 use Rattle.watcher.specs.declared.state.Watcher.{Watcher}
 use Rattle.watcher.specs.Answers.{Found}
 use Rattle.watcher.specs.Limits.{area_words}
 use Rattle.watcher.specs.Lists.{Test, first_refusal}
-use Rattle.watcher.specs.Lists.{list_tests, lists_refusal}
+use Rattle.watcher.specs.Lists.{rule_tests, rule_refusal, list_tests, lists_refusal}
+use Rattle.watcher.specs.Rules.{records_of, many_parameters}
+use Rattle.watcher.specs.Signals.{wrong_signals, names_missing}
 use Rattle.watcher.specs.State.{broken_state}
 use Rattle.watcher.specs.Calls.{wrong_area}
 use Rattle.watcher.specs.Calls.{start_refusal, state_tests, feed_refusal, close_refusal}
 use Rattle.watcher.specs.inside.Turns.{Passed}
-use Rattle.watcher.proofs.Decoded.{first_fine}
+use Rattle.watcher.proofs.Decoded.{first_fine, rule_most}
 
 -- the tests of one list, then those of another
 unfoldable then : Found → Found → Found
@@ -35,6 +37,50 @@ first_append : (a b : List Test) → first_refusal (a ++ b) ≡ then (first_refu
 unfolding first_refusal then
 first_append [] b = refl
 first_append (t ∷ a) b = either_test t.holds t.gives _ _ _ (first_append a b)
+
+-- what is refused of the lists, by what is refused of the rule, and of a start, by what is refused of the lists
+module _ (rule signals ws : List ℕ) where
+  abbrev behind : List Test
+  behind =
+      record { holds = many_parameters rule; gives = RuleParameters }
+      ∷ record { holds = wrong_signals signals; gives = SignalList }
+      ∷ record { holds = names_missing rule (records_of signals); gives = SignalMissing }
+      ∷ []
+
+  lists_whole : lists_refusal rule signals ≡ then (rule_refusal rule) (first_refusal behind)
+  unfolding lists_refusal rule_refusal list_tests
+  lists_whole = first_append (rule_tests rule) behind
+
+  pub lists_first : (r : Refusal) → rule_refusal rule ≡ Err r → lists_refusal rule signals ≡ Err r
+  unfolding then
+  lists_first r e = lists_whole ∙ ap (λ f. then f (first_refusal behind)) e
+
+  pub lists_rest : rule_refusal rule ≡ Ok tt
+      → lists_refusal rule signals ≡ cond (many_parameters rule) (Err RuleParameters)
+      (cond (wrong_signals signals) (Err SignalList)
+      (cond (names_missing rule (records_of signals)) (Err SignalMissing) (Ok tt)))
+  unfolding first_refusal then
+  lists_rest e = lists_whole ∙ ap (λ f. then f (first_refusal behind)) e
+
+  abbrev area : List Test
+  area = record { holds = wrong_area ws; gives = AreaLength } ∷ []
+
+  start_whole : start_refusal rule signals ws ≡ then (lists_refusal rule signals) (first_refusal area)
+  unfolding start_refusal lists_refusal
+  start_whole = first_append (list_tests rule signals) area
+
+  pub start_first : (r : Refusal) → lists_refusal rule signals ≡ Err r → start_refusal rule signals ws ≡ Err r
+  unfolding then
+  start_first r e = start_whole ∙ ap (λ f. then f (first_refusal area)) e
+
+  pub start_area : lists_refusal rule signals ≡ Ok tt
+      → start_refusal rule signals ws ≡ cond (wrong_area ws) (Err AreaLength) (Ok tt)
+  unfolding first_refusal then
+  start_area e = start_whole ∙ ap (λ f. then f (first_refusal area)) e
+
+pub ruleset list_order = (lists_first, lists_rest, rule_most)
+
+pub ruleset start_order = (start_first, start_area)
 
 -- a call that is not refused has an area of its length and a state that is not broken
 none_first : (b : Bool) (r : Refusal) (rest : List Test)

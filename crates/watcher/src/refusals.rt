@@ -1,7 +1,7 @@
 // Which refusal, if any, in document 01's order, and its number.
 ghost use Rattle.std.specs.Prelude.{◌≡◌};
 ghost use Rattle.watcher.specs.Lists.{first_refusal};
-ghost use Rattle.watcher.specs.Calls.{is_closed, is_fresh, too_early};
+ghost use Rattle.watcher.specs.Calls.{wrong_area, is_closed, is_fresh, too_early};
 ghost use Rattle.watcher.specs.Calls.{start_refusal, state_tests, feed_refusal, close_refusal};
 ghost use Rattle.watcher.specs.Numbers.{stage_of};
 ghost use Rattle.watcher.specs.Clauses.{CheckRuleClause, CheckListsClause, NumberClause};
@@ -30,7 +30,7 @@ pub fn check_rule(rule: &[u8]) -> Result<(), Refusal>
 }
 
 // What is refused of the lists that start is given: refusals 1 to 6.
-#[tactic(auto, using(crate::proofs::Decoded::rule_most), unfolding(crate::specs::Lists::rule_refusal, crate::specs::Lists::lists_refusal, crate::specs::Lists::list_tests, crate::specs::Lists::first_refusal))]
+#[tactic(auto, using(crate::proofs::Testing::list_order))]
 pub fn check_lists(rule: &[u8], signals: &[u8]) -> Result<(), Refusal>
     ensures { CheckListsClause rule.now signals.now result }
 {
@@ -47,13 +47,21 @@ pub fn check_lists(rule: &[u8], signals: &[u8]) -> Result<(), Refusal>
     Ok(())
 }
 
+// Whether the work area has another length than a watcher's.
+#[tactic(auto, unfolding(crate::specs::Calls::wrong_area, rewriting::specs::Known::words_for))]
+fn wrong_area(area: &[u64]) -> bool
+    ensures { result ≡ wrong_area area.now }
+{
+    area.len() != Watcher::WORDS
+}
+
 // What is refused of a start: refusals 1 to 7.
-#[tactic(auto, unfolding(crate::specs::Calls::start_refusal, crate::specs::Calls::wrong_area, rewriting::specs::Known::words_for, crate::specs::Lists::lists_refusal, crate::specs::Lists::list_tests, crate::specs::Lists::first_refusal))]
+#[tactic(auto, using(crate::proofs::Testing::start_order))]
 pub(crate) fn start_refusal(rule: &[u8], signals: &[u8], area: &[u64]) -> Result<(), Refusal>
     ensures { result ≡ start_refusal rule.now signals.now area.now }
 {
     check_lists(rule, signals)?;
-    if area.len() != Watcher::WORDS {
+    if wrong_area(area) {
         return Err(Refusal::AreaLength);
     }
     Ok(())
@@ -68,11 +76,11 @@ fn is_closed(phase: Phase) -> bool
 }
 
 // What feed, ask and close test first: refusals 7, 12 and 10.
-#[tactic(auto, unfolding(crate::specs::Calls::state_tests, crate::specs::Lists::first_refusal, crate::specs::Calls::wrong_area, rewriting::specs::Known::words_for))]
+#[tactic(auto, unfolding(crate::specs::Calls::state_tests, crate::specs::Lists::first_refusal))]
 fn state_refusal(watcher: Watcher, area: &[u64]) -> Result<(), Refusal>
     ensures { result ≡ first_refusal (state_tests watcher area.now) }
 {
-    if area.len() != Watcher::WORDS {
+    if wrong_area(area) {
         return Err(Refusal::AreaLength);
     }
     if broken_state(watcher, area) {

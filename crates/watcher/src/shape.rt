@@ -12,7 +12,7 @@ use rewriting::shape::{bits_above, not_zero_from, wrong_rows};
 use rewriting::step::{Moment, Plan};
 
 // Whether a row is not what it must be in the state's phase. It makes the plan itself, since m is counted already.
-#[tactic(auto, using(crate::proofs::Breaking::sound), unfolding(crate::specs::State::wrong_in_phase, crate::specs::Numbers::stage_of, crate::specs::State::parameters_of, crate::specs::State::rule_of))]
+#[tactic(auto, using(crate::proofs::Breaking::own_rows), unfolding(crate::specs::Numbers::stage_of))]
 fn wrong_in_phase(watcher: Watcher, m: usize, area: &[u64]) -> bool
     requires { (start_refuses watcher ≡ false) × (m ≡ parameters_of watcher)
         × (bits_above most_parameters m area.now ≡ false) }
@@ -38,7 +38,7 @@ fn wrong_in_phase(watcher: Watcher, m: usize, area: &[u64]) -> bool
 }
 
 // Whether the state that is handed in is broken: refusal 12.
-#[tactic(auto, using(crate::proofs::HeldLaws::held_most, crate::proofs::HeldLaws::held_listed, crate::proofs::Breaking::own_parameters), unfolding(crate::specs::State::broken_state))]
+#[tactic(auto, using(crate::proofs::Breaking::own_lists), unfolding(crate::specs::State::broken_state))]
 pub(crate) fn broken_state(watcher: Watcher, area: &[u64]) -> bool
     ensures { result ≡ broken_state watcher area.now }
 {

@@ -111,7 +111,6 @@ pub(crate) fn rewrite_area(watcher: Watcher, new: Moment, area: &mut [u64])
 }
 
 // The value were this the last record.
-#[tactic(auto, unfolding(crate::specs::Calls::value_now, crate::specs::Calls::known_now, crate::specs::State::parameters_of, crate::specs::State::rule_of))]
 pub(crate) fn value_now(watcher: Watcher, area: &[u64]) -> bool
     requires { Passed watcher area.now }
     ensures { result ≡ value_now watcher area.now }
