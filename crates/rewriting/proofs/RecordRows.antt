@@ -39,12 +39,12 @@ use Rattle.rewriting.specs.Shape.{looks_forward, forward, wrong_row, wrong_at, w
 use Rattle.rewriting.specs.inside.Shapes.{Before, Tells, Fitting, widened}
 
 -- a row that fits is that of its form
-row_is : (m : ℕ) (row : List ℕ) → length row ≡ 64 → ((i : ℕ) → Fits w64 (get_or row i 0)) → fits m row ≡ true
+pub row_is : (m : ℕ) (row : List ℕ) → length row ≡ 64 → ((i : ℕ) → Fits w64 (get_or row i 0)) → fits m row ≡ true
     → row ≡ pack m (unpack m row)
 row_is m row long small e = pack_unpack m row (words_of_lem 64 row long (λ i h. (small i).fits)) e
 
 -- a row that was loaded fits
-row_fits : (m : ℕ) (ws : List ℕ) (j : ℕ) (row : List ℕ) → Fitting m ws → j < m → row ≡ row_at ws j
+pub row_fits : (m : ℕ) (ws : List ℕ) (j : ℕ) (row : List ℕ) → Fitting m ws → j < m → row ≡ row_at ws j
     → fits m row ≡ true
 row_fits m ws j row all h e = ap (fits m) e ∙ all j h
 

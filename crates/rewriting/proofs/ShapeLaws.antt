@@ -89,7 +89,7 @@ names_other_lem m f named allowed few h e =
     (λ p l. ap (λ b. b && not (bit allowed p)) (names_low m f p l))
 
 -- rows are equal exactly if they are those of the same form
-same_row : (m : ℕ) (f g : Form m) → m ≤ 12 → (a b : List ℕ) → a ≡ pack m f → b ≡ pack m g
+pub same_row : (m : ℕ) (f g : Form m) → m ≤ 12 → (a b : List ℕ) → a ≡ pack m f → b ≡ pack m g
     → pointwise eqb a b ≡ same m f g
 same_row m f g few a b ea eb =
     same_truth _ _
