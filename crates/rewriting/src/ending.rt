@@ -2,6 +2,7 @@
 ghost use Rattle.std.specs.Prelude.{◌≡◌, ◌&&◌, ◌||◌, ℕ, ◌+◌, ◌≤◌, ◌<◌, eqb, length};
 ghost use Rattle.ground.specs.Bits.{bit};
 ghost use Rattle.rewriting.specs.Known.{words_for, Tidy};
+ghost use Rattle.rewriting.specs.Plans.{Ready};
 ghost use Rattle.rewriting.specs.inside.Endings.{Settled, last_rows, OfEnd, OfEnds};
 ghost use Rattle.rewriting.specs.Clauses.{ValueIfLastClause, CloseClause, BeginClause};
 
@@ -53,7 +54,7 @@ fn end_values(step: Step, count: usize, forms: Rows<'_>, past: Rows<'_>, setting
 // The setting of a rule's parameters, were this the last record. A turn begins as one of `walk` does, and what it makes
 // of a record differs.
 fn last_setting(tabled: Tabled<'_, '_>, last: Moment, area: &[u64]) -> usize
-    requires { Tidy tabled.rule.plan.places tabled.rule.plan.m area.now }
+    requires { Ready tabled.rule.list.now tabled.rule.plan tabled.forms.now area.now }
     ensures { let rule = tabled.entry.rule in
         Settled rule.plan.m (last_rows rule.list.now rule.plan last area.now rule.plan.records) result }
 {
@@ -79,7 +80,7 @@ fn last_setting(tabled: Tabled<'_, '_>, last: Moment, area: &[u64]) -> usize
 
 // The value were this the last record.
 pub fn value_if_last(tabled: Tabled<'_, '_>, last: Moment, area: &[u64]) -> bool
-    requires { Tidy tabled.rule.plan.places tabled.rule.plan.m area.now }
+    requires { Ready tabled.rule.list.now tabled.rule.plan tabled.forms.now area.now }
     ensures { ValueIfLastClause tabled.entry.rule.list.now tabled.entry.rule.plan last tabled.entry.forms.now area.now
         result }
 {

@@ -1,6 +1,6 @@
 // A record of the log rewrites the work area: past rows from place 0 on, the remainder behind the places for them,
-// then the scratch.
-ghost use Rattle.rewriting.specs.Known.{Tidy};
+// then the scratch. Of `Ready`, which is asked for, `Tabled` keeps all but the area's part.
+ghost use Rattle.rewriting.specs.Plans.{Ready};
 ghost use Rattle.rewriting.specs.Clauses.{FirstClause, FeedClause};
 
 use crate::row::Row;
@@ -12,7 +12,7 @@ use forms::table::put_in;
 
 // The first record leaves the remainder, and makes its past rows.
 pub fn first(tabled: Tabled<'_, '_>, new: Moment, area: &mut [u64])
-    requires { Tidy tabled.rule.plan.places tabled.rule.plan.m area.old }
+    requires { Ready tabled.rule.list.now tabled.rule.plan tabled.forms.now area.old }
     ensures { FirstClause tabled.entry.rule.list.now tabled.entry.rule.plan new tabled.entry.forms.now area.old
         area.new }
 {
@@ -23,7 +23,7 @@ pub fn first(tabled: Tabled<'_, '_>, new: Moment, area: &mut [u64])
 
 // A later record puts the derived rows of the one before into the remainder, then makes its past rows.
 pub fn feed(tabled: Tabled<'_, '_>, last: Moment, new: Moment, area: &mut [u64])
-    requires { Tidy tabled.rule.plan.places tabled.rule.plan.m area.old }
+    requires { Ready tabled.rule.list.now tabled.rule.plan tabled.forms.now area.old }
     ensures { FeedClause tabled.entry.rule.list.now tabled.entry.rule.plan last new tabled.entry.forms.now area.old
         area.new }
 {

@@ -28,13 +28,13 @@ step_at-step-requires c =
     let rule = c.args.tabled.rule in
     let p = c.loop-k.invariant in
     let g = gave _ _ _ _ _ p.2 p.3 _ _ _ _ _ _ c.in-Some.ensures.steps in
-    first_fits rule.list.now rule.plan rule.sound _ _ g.2.1.begins
+    first_fits rule.list.now rule.plan c.requires.0 _ _ g.2.1.begins
 
 pub end_values-setting-requires : goal.end_values-setting-requires
 end_values-setting-requires c =
     let a = c.args in
     let rule = a.tabled.rule in
-    let sound = rule.sound in
+    let sound = c.requires.0 in
     let p = c.loop-k.invariant in
     let g = gave _ _ _ _ _ p.2 p.3 _ _ _ _ _ _ c.in-Some.ensures.steps in
     let ready =
@@ -59,8 +59,8 @@ loop-k-preserved c =
           (last_more rule.list.now rule.plan a.last a.area.now k
           (record { area = a.tabled.forms; base = 0; count = k })
           (record { area = a.area; base = 0; count = rule.plan.m })
-          (forms_held _ _ k rule.plan.records a.tabled.forms.now (omega (arith, given.less)) a.tabled.holds)
-          (tidy_held rule.plan.places _ _ c.requires rule.sound.few) _ _ _ _ _ _ given c.count_of-count.ensures.0 _ _
-          c.step_at-step.ensures.2
+          (forms_held _ _ k rule.plan.records a.tabled.forms.now (omega (arith, given.less)) c.requires.1)
+          (tidy_held rule.plan.places _ _ c.requires.2 c.requires.0.few) _ _ _ _ _ _ given c.count_of-count.ensures.0
+          _ _ c.step_at-step.ensures.2
           (subst (λ n. Settled rule.plan.m (rows n) c.loop-k.setting) g.2.0 p.4) c.end_values-setting.ensures),
     )

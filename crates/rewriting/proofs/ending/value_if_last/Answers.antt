@@ -10,6 +10,7 @@ pub returns : goal.returns
 returns c =
     let a = c.args in
     let rule = a.tabled.rule in
-    let few : rule.plan.m ≤ 12 = omega (arith, rule.sound.few, rule.sound.room) in
+    let sound = c.requires.0 in
+    let few : rule.plan.m ≤ 12 = omega (arith, sound.few, sound.room) in
     last_valued rule.list.now rule.plan a.last a.area.now _ _ c.last_setting-setting.ensures
-    (c.value.ensures _ _ few (c.load.ensures ∙ tidy_rest _ _ _ c.requires))
+    (c.value.ensures _ _ few (c.load.ensures ∙ tidy_rest _ _ _ c.requires.2))

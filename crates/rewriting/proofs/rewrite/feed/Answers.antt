@@ -4,5 +4,5 @@ use Rattle.rewriting.proofs.rewrite.feed.Goals as goal
 
 pub returns : goal.returns
 returns c =
-    feed_done _ _ c.args.tabled.rule.sound _ c.requires _ _ _ _ _ _ _ _ c.rule_rows.ensures c.load.ensures
+    feed_done _ _ c.requires.0 _ c.requires.2 _ _ _ _ _ _ _ _ c.rule_rows.ensures c.load.ensures
     c.put_in-rest.ensures c.store.ensures c.rule_rows-2.ensures c.clear.ensures

@@ -4,5 +4,5 @@ use Rattle.rewriting.proofs.rewrite.first.Goals as goal
 
 pub returns : goal.returns
 returns c =
-    first_done _ _ c.args.tabled.rule.sound _ c.requires _ _ _ c.rule_rows.ensures
+    first_done _ _ c.requires.0 _ c.requires.2 _ _ _ c.rule_rows.ensures
     c.clear.ensures

@@ -11,10 +11,18 @@ pub table_for-table-requires : goal.table_for-table-requires
 table_for-table-requires c = plan_records _ _ _ c.rule_in-rule.ensures.1 (passed_most _ _ c.requires)
 
 pub first-requires : goal.first-requires
-first-requires c = passed_area _ _ c.requires _ c.rule_in-rule.ensures.1 (omega arith)
+first-requires c = (
+  c.rule_in-rule.result.sound,
+  c.table_for-table.ensures,
+  passed_area _ _ c.requires _ c.rule_in-rule.ensures.1 (omega arith),
+)
 
 pub feed-requires : goal.feed-requires
-feed-requires c = passed_area _ _ c.requires _ c.rule_in-rule.ensures.1 (omega arith)
+feed-requires c = (
+  c.rule_in-rule.result.sound,
+  c.table_for-table.ensures,
+  passed_area _ _ c.requires _ c.rule_in-rule.ensures.1 (omega arith),
+)
 
 pub returns-in-Fresh : goal.returns-in-Fresh
 returns-in-Fresh c =

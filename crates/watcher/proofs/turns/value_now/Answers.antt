@@ -14,7 +14,11 @@ pub table_for-table-requires : goal.table_for-table-requires
 table_for-table-requires c = plan_records _ _ _ c.rule_in-rule.ensures.1 (passed_most _ _ c.requires)
 
 pub value_if_last-requires : goal.value_if_last-requires
-value_if_last-requires c = passed_area _ _ c.requires _ c.rule_in-rule.ensures.1 (omega arith)
+value_if_last-requires c = (
+  c.rule_in-rule.result.sound,
+  c.table_for-table.ensures,
+  passed_area _ _ c.requires _ c.rule_in-rule.ensures.1 (omega arith),
+)
 
 pub returns : goal.returns
 unfolding value_now known_now parameters_of rule_of
