@@ -18,7 +18,7 @@ use Rattle.forms.specs.Rows.{OfForm, OfForms, which_constant}
 use Rattle.forms.specs.Area.{row_at, Holds}
 use Rattle.forms.specs.Clauses.{ConstantClause, ParameterClause, XorClause, AndClause, OrClause}
 use Rattle.forms.specs.Clauses.{WhichConstantClause, FitsClause, NamesClause, ValueClause}
-use Rattle.forms.specs.Clauses.{LoadClause, RowOfClause, StoreClause, ClearClause, PutInClause}
+use Rattle.forms.specs.Clauses.{LoadClause, RowClause, StoreClause, ClearClause, PutInClause}
 use Rattle.forms.proofs.Areas.{row_words}
 use Rattle.forms.proofs.Packing.{bit_unpack, pack_is, most_is, most_few, most_wide}
 
@@ -111,8 +111,8 @@ module _ (ws : List ℕ) (base count : ℕ) (small : (i : ℕ) → get_or ws i 0
         ∙ ap (pack most) (sym (get_d_tab count at j (constant most false) h));
   }
 
-  pub only_row_of : (j : ℕ) (o o' : List ℕ) → RowOfClause ws base count j o → RowOfClause ws base count j o' → o ≡ o'
-  only_row_of j o o' p q = p most (tab count at) held ∙ sym (q most (tab count at) held)
+  pub only_row : (j : ℕ) (o o' : List ℕ) → RowClause ws base count j o → RowClause ws base count j o' → o ≡ o'
+  only_row j o o' p q = p most (tab count at) held ∙ sym (q most (tab count at) held)
 
   -- a row with them put in
   pub only_put_in : (row o o' : List ℕ) → Words 64 row → PutInClause row ws base count o

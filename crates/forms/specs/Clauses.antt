@@ -52,8 +52,8 @@ abbrev pub LoadClause : (ws : List ℕ) (place : ℕ) → List ℕ → Type 0
 LoadClause ws place o = o ≡ row_at ws place
 
 -- row j of the count rows from base on
-abbrev pub RowOfClause : (ws : List ℕ) (base count j : ℕ) → List ℕ → Type 0
-RowOfClause ws base count j o = OfRow ws base count j o
+abbrev pub RowClause : (ws : List ℕ) (base count j : ℕ) → List ℕ → Type 0
+RowClause ws base count j o = OfRow ws base count j o
 
 -- the area with a row put at a place
 abbrev pub StoreClause : (ws : List ℕ) (place : ℕ) (row : List ℕ) → List ℕ → Type 0

@@ -1,7 +1,7 @@
 // Rows of 64 words in a lent area: the row at a place is words 64 * place to 64 * place + 63.
 ghost use Rattle.std.specs.Prelude.{◌≡◌, ◌+◌, ◌*◌, min};
 ghost use Rattle.forms.specs.Area.{row_at};
-ghost use Rattle.forms.specs.Clauses.{LoadClause, RowOfClause, StoreClause, ClearClause};
+ghost use Rattle.forms.specs.Clauses.{LoadClause, RowClause, StoreClause, ClearClause};
 
 // The count rows of an area from base on.
 #[derive(Clone, Copy)]
@@ -14,7 +14,7 @@ pub struct Rows<'a> {
 impl<'a> Rows<'a> {
     // Row j of these; false from count on.
     pub fn row(self, j: usize) -> [u64; 64]
-        ensures { RowOfClause self.entry.area.now self.entry.base self.entry.count j result }
+        ensures { RowClause self.entry.area.now self.entry.base self.entry.count j result }
     {
         if j < self.count {
             row_from(self.area, self.base, j)
