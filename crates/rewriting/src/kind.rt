@@ -20,7 +20,9 @@ impl From<u8> for Kind {
     ghost from_gives = { KindClause };
 
     #[tactic(auto, unfolding(crate::specs::Decode::kind_of))]
-    fn from(byte: u8) -> Kind {
+    fn from(byte: u8) -> Kind
+        ensures { KindClause byte result }
+    {
         match byte {
             1 => Kind::True,
             2 => Kind::False,
