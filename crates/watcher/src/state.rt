@@ -105,7 +105,9 @@ impl From<bool> for Verdict {
     ghost from_gives = { VerdictClause };
 
     #[tactic(auto, unfolding(crate::specs::Numbers::verdict_for))]
-    fn from(value: bool) -> Verdict {
+    fn from(value: bool) -> Verdict
+        ensures { VerdictClause value result }
+    {
         if value {
             Verdict::Kept
         } else {
