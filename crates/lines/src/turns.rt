@@ -2,7 +2,7 @@
 ghost use Rattle.lines.specs.Clauses.{LineBytesClause, StartLineClause, FeedLineClause, AskLineClause};
 
 use crate::line::Line;
-use watcher::state::Watcher;
+use watcher::state::{Watcher, is_refused};
 
 // Bytes that no line has more of.
 pub const LINE_BYTES: usize = 80;
@@ -41,7 +41,7 @@ pub fn start_line(rule: &[u8], signals: &[u8], area: &mut [u64], out: &mut [u8])
     line.put_found(started.found);
     Opened {
         next: started.next,
-        ready: started.found.is_ok(),
+        ready: !is_refused(started.found),
         length: line.len(),
     }
 }

@@ -2,9 +2,11 @@
 -- Assumes nothing.
 use mathlib.Core.Path.{◌≡◌, ap, sym, ◌∙◌, refl}
 use mathlib.Core.List.{List, []}
-use Prim.Native.Nat.{ℕ, suc, ◌+◌, ◌*◌, ◌≤◌, ◌<◌, zero}
+use Prim.Native.Nat.{ℕ, suc, ◌+◌, ◌*◌, ◌/◌, ◌≤◌, ◌<◌, zero}
+use native.Mathlib.Nat.{mul-suc, mul-le-mul_left, mul-div-le}
+use mathlib.Core.Logic.{⊎_elim}
 use native.Mathlib.Omega.{arith}
-use borrow.Author.Tests.{eq-eqb, eqb-true, leb-false}
+use borrow.Author.Tests.{eq-eqb, eqb-true, leb-true, leb-false}
 use lib.Dec.{eqb, leb}
 use lib.ListN.{length, get_or, take, drop, replicate, get_or-eq_default}
 use lib.Pointwise.{pointwise}
@@ -13,8 +15,8 @@ use Rattle.std.specs.Bool.{Decides}
 use Rattle.std.proofs.lemmas.List.{get_or-take, get_or-drop, length-drop}
 use Rattle.std.proofs.lemmas.Slice.Eq.{bytes_eq-Decides}
 use Rattle.meaning.proofs.Ranges.{same_truth}
-use Rattle.ground.specs.Fold.{some}
-use Rattle.ground.proofs.Folds.{every_all, every_at}
+use Rattle.ground.specs.Fold.{fold, some}
+use Rattle.ground.proofs.Folds.{less_or_not, every_all, every_at}
 use mathlib.Core.Bool.{false, true, Bool, cond, ◌&&◌, and-false}
 use Rattle.rewriting.specs.Decode.{record_bytes, kind_number}
 use Rattle.watcher.specs.Limits.{most_records, list_bytes}
@@ -30,20 +32,30 @@ pub uses_no_kind : (kind i : ℕ) → 10 ≤ kind → uses kind i ≡ false
 unfolding uses used_bytes
 uses_no_kind kind i h = ap (λ row. get_or row i false) (get_or-eq_default used_bytes [] h)
 
+pub uses_no_byte : (kind i : ℕ) → record_bytes ≤ i → uses kind i ≡ false
+unfolding uses used_bytes fold
+uses_no_byte kind i l =
+    ⊎_elim
+    (λ h.
+    let row : length (get_or used_bytes kind []) ≤ record_bytes =
+    leb-true _ _ (every_at 10 (λ n. leb (length (get_or used_bytes n [])) record_bytes) refl kind h) in
+    get_or-eq_default (get_or used_bytes kind []) false (omega arith))
+    (uses_no_kind kind i) (less_or_not kind 10)
+
 -- a list of none
 none : (n i : ℕ) → get_or (replicate n false) i false ≡ false
 none zero i = refl
 none (suc n) zero = refl
 none (suc n) (suc i) = none n i
 
--- and that of another byte uses none
-pub uses_other : (byte i : ℕ) → get_or (replicate 8 false) i false ≡ uses (kind_number (Other byte)) i
+-- and a byte that is no kind uses none
+pub uses_other : (byte i : ℕ) → uses 0 i ≡ uses (kind_number (Other byte)) i
 unfolding uses used_bytes kind_number
-uses_other byte i = none 8 i ∙ sym (go (leb byte 9) refl)
+uses_other byte i = go (leb byte 9) refl
   where
-    go : (b : Bool) → leb byte 9 ≡ b → uses (cond b 0 byte) i ≡ false
-    go true e = none 8 i
-    go false e = uses_no_kind byte i (leb-false byte 9 e)
+    go : (b : Bool) → leb byte 9 ≡ b → uses 0 i ≡ uses (cond b 0 byte) i
+    go true e = refl
+    go false e = none 8 i ∙ sym (uses_no_kind byte i (leb-false byte 9 e))
 
 -- a kind that is of the nine, of none of them, or no signal
 pub kind_known : (kind : Kind) → ((byte : ℕ) → kind ≡ Other byte → ⊥)
@@ -89,6 +101,12 @@ no_signal (Other byte) n e = go (leb byte 9) refl e
 pub records_few : (list : List ℕ) (n : ℕ) → n ≡ records_of list → length list ≤ list_bytes → n ≤ most_records
 unfolding records_of
 records_few list n e h = omega arith
+
+-- a record that a list has lies inside it
+pub record_inside : (size i n : ℕ) → i < n / size → size * i + size ≤ n
+record_inside size i n h =
+    let most : size * suc i ≤ size * (n / size) = mul-le-mul_left size h in
+    omega (arith, most, mul-div-le n size, mul-suc size i)
 
 -- two parts of a list are equal where each byte of the one is that of the other
 module _ (list : List ℕ) (size : ℕ) where

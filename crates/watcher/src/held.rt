@@ -5,7 +5,7 @@ ghost use Rattle.watcher.specs.Numbers.{stage_of};
 ghost use Rattle.watcher.specs.State.{start_refuses, not_zeros_behind, signals_above};
 
 use crate::refusals::check_lists;
-use crate::state::{Phase, Watcher};
+use crate::state::{Phase, Watcher, is_refused};
 use ground::bytes::zeros_from;
 
 // Whether the state holds a rule or list that start would refuse.
@@ -18,7 +18,7 @@ pub(crate) fn start_refuses(watcher: Watcher) -> bool
     }
     let rule = &watcher.rule[..Watcher::RECORD_BYTES * watcher.records];
     let list = &watcher.list[..Watcher::RECORD_BYTES * watcher.signals];
-    check_lists(rule, list).is_err()
+    is_refused(check_lists(rule, list))
 }
 
 // Whether a byte behind one of its lists is not zero.

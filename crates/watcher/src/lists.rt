@@ -14,17 +14,40 @@ use rewriting::kind::Kind;
 use rewriting::rule::{byte_of, parameters_in, record_at};
 use rewriting::step::{Interval, Record};
 
-// Which of a record's eight bytes its kind uses: kind, left, right, zero, low, high, zero, zero.
-fn used_bytes(kind: Kind) -> [bool; Watcher::RECORD_BYTES]
-    ensures { (i : ℕ) → get_or result i false ≡ uses (kind_number kind) i }
+// Kinds 0, which is none, to 9.
+const KINDS: usize = 10;
+
+// For each kind, which of the eight bytes are used: kind, left, right, zero, low, high, zero, zero.
+const USED: [[bool; Watcher::RECORD_BYTES]; KINDS] = [
+    [false, false, false, false, false, false, false, false],
+    [true, false, false, false, false, false, false, false],
+    [true, false, false, false, false, false, false, false],
+    [true, true, false, false, false, false, false, false],
+    [true, true, true, false, false, false, false, false],
+    [true, true, true, false, false, false, false, false],
+    [true, true, false, false, true, true, false, false],
+    [true, true, true, false, true, true, false, false],
+    [true, true, false, false, true, true, false, false],
+    [true, true, true, false, true, true, false, false],
+];
+
+// The row of a kind in the table.
+#[tactic(auto, using(crate::proofs::Checking::uses_other), unfolding(rewriting::specs::Decode::kind_number))]
+fn used_row(kind: Kind) -> usize
+    ensures inside { result < 10 }
+    ensures same { (i : ℕ) → uses result i ≡ uses (kind_number kind) i }
 {
     match kind {
-        Kind::True | Kind::False => [true, false, false, false, false, false, false, false],
-        Kind::Signal => [true, true, false, false, false, false, false, false],
-        Kind::And | Kind::Xor => [true, true, true, false, false, false, false, false],
-        Kind::Next | Kind::Previous => [true, true, false, false, true, true, false, false],
-        Kind::Until | Kind::Since => [true, true, true, false, true, true, false, false],
-        Kind::Other(_) => [false; Watcher::RECORD_BYTES],
+        Kind::True => 1,
+        Kind::False => 2,
+        Kind::Signal => 3,
+        Kind::And => 4,
+        Kind::Xor => 5,
+        Kind::Next => 6,
+        Kind::Until => 7,
+        Kind::Previous => 8,
+        Kind::Since => 9,
+        Kind::Other(_) => 0,
     }
 }
 
@@ -32,7 +55,7 @@ fn used_bytes(kind: Kind) -> [bool; Watcher::RECORD_BYTES]
 pub(crate) fn uses(kind: Kind, i: usize) -> bool
     ensures { result ≡ uses (kind_number kind) i }
 {
-    used_bytes(kind).get(i).copied().unwrap_or(false)
+    i < Watcher::RECORD_BYTES && USED[used_row(kind)][i]
 }
 
 // How many records a list has.
@@ -138,16 +161,25 @@ pub(crate) fn same_record(list: &[u8], size: usize, i: usize, j: usize) -> bool
     list[size * i..size * i + size] == list[size * j..size * j + size]
 }
 
-// Where the first twins are: the lowest record that has an earlier twin, and the earliest.
+// Where the first twins are: the lowest record that has an earlier twin, and the earliest; they end the search.
 pub(crate) fn first_twins(list: &[u8], size: usize) -> Option<Place>
     requires { 0 < size }
     ensures { result ≡ first_twins size list.now }
 {
-    let earlier_twin = |i: usize|
-        requires { i < length list.now / size }
-        ensures { result ≡ find (same_record size list.entry.now i) (range_with_len 0 i) }
-    { (0..i).find(|j| same_record(list, size, i, *j)) };
-    first_place(list.len() / size, earlier_twin)
+    let records = list.len() / size;
+    let mut found = None;
+    'pairs: for i in 0..records {
+        for j in 0..i {
+            if same_record(list, size, i, j) {
+                found = Some(Place {
+                    record: i,
+                    second: j,
+                });
+                break 'pairs;
+            }
+        }
+    }
+    found
 }
 
 // Whether the rule has more parameters than it may.

@@ -1,5 +1,6 @@
 // The watcher's state, its limits, and its answers.
-ghost use Rattle.watcher.specs.Clauses.{LimitsClause, VerdictClause, WordClause, LastClause, ZeroStateClause};
+ghost use Rattle.watcher.specs.Clauses.{LimitsClause, IsRefusedClause, VerdictClause, WordClause, LastClause};
+ghost use Rattle.watcher.specs.Clauses.{ZeroStateClause};
 
 use rewriting::rule::RECORD_BYTES;
 use rewriting::step::Moment;
@@ -99,6 +100,13 @@ pub struct Limits {
     pub list_bytes: usize,
     pub log_bytes: usize,
     pub words: usize,
+}
+
+// Whether something is refused.
+pub fn is_refused(found: Result<(), Refusal>) -> bool
+    ensures { IsRefusedClause found result }
+{
+    found.is_err()
 }
 
 impl From<bool> for Verdict {
