@@ -78,6 +78,10 @@ zeros_all bytes from p =
     eq-eqb (get_or (drop from bytes) k d) 0
     (get_or-drop from bytes k d ∙ get_or_default_zero bytes (from + k) d h ∙ p (from + k) (omega arith) h))
 
+-- past the end there is none that is not
+pub zeros_past : (bytes : List ℕ) (from : ℕ) → length bytes ≤ from → zeros_from bytes from ≡ true
+zeros_past bytes from h = zeros_all bytes from (λ i l k. let z : ⊥ = omega arith in absurd z)
+
 -- they are zeros exactly if every byte of the list is zero or lies before `from`
 pub zeros_every : (bytes : List ℕ) (from : ℕ)
     → zeros_from bytes from ≡ every (length bytes) (λ i. ltb i from || eqb (get_or bytes i 0) 0)

@@ -1,4 +1,6 @@
 // Bytes of a slice, zero past its end: one by one, as numbers with the lowest byte first, and zeros behind a prefix.
+ghost use Rattle.std.specs.Prelude.{◌≡◌};
+ghost use Rattle.ground.specs.Bytes.{zeros_from};
 ghost use Rattle.ground.specs.Clauses.{ByteClause, LittleClause, ZerosFromClause};
 
 // The byte at `at`.
@@ -24,9 +26,18 @@ pub fn little<const N: usize>(bytes: &[u8], at: usize) -> u64
     number
 }
 
-// Whether every byte from `from` on is zero.
+// Whether every byte is zero.
+fn all_zeros(bytes: &[u8]) -> bool
+    ensures { result ≡ zeros_from bytes.now 0 }
+{
+    bytes.iter().all(|byte| *byte == 0)
+}
+
+// Whether every byte from `from` on is zero. A part of a slice begins at its place at once, where an iterator's `skip`
+// would go there byte by byte.
+#[tactic(auto, using(std::proofs::lemmas::List::take_rest, crate::proofs::ByteLaws::zeros_past))]
 pub fn zeros_from(bytes: &[u8], from: usize) -> bool
     ensures { ZerosFromClause bytes.now from result }
 {
-    bytes.iter().skip(from).all(|byte| *byte == 0)
+    bytes.len() <= from || all_zeros(&bytes[from..])
 }

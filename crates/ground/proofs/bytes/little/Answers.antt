@@ -28,4 +28,4 @@ pub loop-k-preserved : goal.loop-k-preserved
 loop-k-preserved g c =
     let few : c.min-count.result ≤ 8 = omega (arith, c.min-count.ensures) in
     let m = little_more _ c.args.at _ _ (λ i. (c.type_inv.bytes i).fits) few c.loop-k-test.true c.loop-k.auto.k in
-    omega (arith, m.0)
+    grind (arith, m.0)
