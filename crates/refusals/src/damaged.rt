@@ -1,8 +1,10 @@
 // States that are damaged, one for each part of document 01's account of 12, and damaged ones that are fresh or closed.
+ghost use Rattle.std.specs.Prelude.{◌≤◌, ◌+◌};
+
 use crate::given::{RULE_A, RULE_B, closed_a, fresh, running, running_a};
 use crate::tried::Tried;
 use std::io;
-use watcher::state::{Phase, Refusal, Watcher};
+use watcher::state::{Phase, Watcher};
 
 // A bit at 2^5 of a row.
 const WIDE: u64 = 1 << 32;
@@ -37,16 +39,20 @@ impl<P: Print> Tried<'_, P> {
         place: usize,
         word: u64,
         area: &mut [u64],
-    ) -> io::Result<()> {
+    ) -> io::Result<()>
+        ensures { self.new.right ≤ self.old.right + 4 }
+    {
         if let Some(old) = area.get_mut(place) {
             *old = word;
         }
-        self.refused(Refusal::BrokenState, watcher, area)
+        self.refused(12, watcher, area)
     }
 
     // Rows of another shape; a fresh state with a past row, since 12 comes before 11, and a closed one with a row that
     // is not used, since it comes before 10; and a since's row that names a signal.
-    fn rows_refused(&mut self, area: &mut [u64]) -> io::Result<()> {
+    fn rows_refused(&mut self, area: &mut [u64]) -> io::Result<()>
+        ensures { self.new.right ≤ self.old.right + 32 }
+    {
         for (place, word) in OVERWRITTEN {
             let watcher = running_a(area);
             self.word_refused(watcher, place, word, area)?;
@@ -61,7 +67,9 @@ impl<P: Print> Tried<'_, P> {
 
     // The damaged states, the watcher's with its area as they are first: with no rule, no list, a byte behind the rule,
     // and a signal above the list.
-    pub(crate) fn states_refused(&mut self, watcher: Watcher, area: &mut [u64]) -> io::Result<()> {
+    pub(crate) fn states_refused(&mut self, watcher: Watcher, area: &mut [u64]) -> io::Result<()>
+        ensures { self.new.right ≤ self.old.right + 48 }
+    {
         let states = [
             Watcher {
                 records: 0,
@@ -75,7 +83,7 @@ impl<P: Print> Tried<'_, P> {
             brightened(watcher),
         ];
         for state in states {
-            self.refused(Refusal::BrokenState, state, area)?;
+            self.refused(12, state, area)?;
         }
         self.rows_refused(area)
     }

@@ -1,18 +1,24 @@
-// Answers, each held to the one that is wanted, and the lines of how many were right.
+// Answers as numbers, each held to the one that is wanted, and the lines of how many were right.
+ghost use Rattle.std.specs.Prelude.{◌≤◌, ◌+◌};
+
 use crate::given::RECORD;
 use std::io;
 use watcher::state::{Refusal, Verdict, Watcher};
 
+// The numbers of the verdicts, above those of the refusals.
+pub(crate) const KEPT: usize = 101;
+
+pub(crate) const BROKEN: usize = 102;
+
 // What a call says: a refusal, or how the log ends, where the call is one that asks or closes.
 pub(crate) type Said = Result<Option<Verdict>, Refusal>;
 
-// The number that is told of it: the refusal's own, or one above those of the refusals for a verdict, or 0. Answers are
-// held to one another by it, since a line of a difference prints it.
+// The number of what is said: a refusal's own, a verdict's, or 0.
 fn number(said: Said) -> usize {
     match said {
         Ok(None) => 0,
-        Ok(Some(Verdict::Kept)) => 101,
-        Ok(Some(Verdict::Broken)) => 102,
+        Ok(Some(Verdict::Kept)) => KEPT,
+        Ok(Some(Verdict::Broken)) => BROKEN,
         Err(refusal) => refusal.number(),
     }
 }
@@ -36,7 +42,9 @@ pub(crate) struct Tried<'a, P> {
 
 impl<P: Print> Tried<'_, P> {
     // Counts a number that is the wanted one; else a line is written.
-    fn count(&mut self, said: usize, wanted: usize) -> io::Result<()> {
+    fn count(&mut self, said: usize, wanted: usize) -> io::Result<()>
+        ensures { self.new.right ≤ self.old.right + 1 }
+    {
         if said != wanted {
             return println!(self.rt; "DIFFERENCE said {said} wanted {wanted}");
         }
@@ -44,25 +52,31 @@ impl<P: Print> Tried<'_, P> {
         Ok(())
     }
 
-    // Holds an answer to the one that is wanted.
-    pub(crate) fn hold(&mut self, said: Said, wanted: Said) -> io::Result<()> {
-        self.count(number(said), number(wanted))
+    // Holds an answer to the number that is wanted, spelled by the caller and not asked of the watcher.
+    pub(crate) fn hold(&mut self, said: Said, wanted: usize) -> io::Result<()>
+        ensures { self.new.right ≤ self.old.right + 1 }
+    {
+        self.count(number(said), wanted)
     }
 
     // Holds what should be so.
-    pub(crate) fn hold_so(&mut self, so: bool) -> io::Result<()> {
+    pub(crate) fn hold_so(&mut self, so: bool) -> io::Result<()>
+        ensures { self.new.right ≤ self.old.right + 1 }
+    {
         self.count(usize::from(so), 1)
     }
 
-    // Holds a watcher's four answers to a refusal.
+    // Holds a watcher's four answers to a refusal's number.
     pub(crate) fn refused(
         &mut self,
-        wanted: Refusal,
+        wanted: usize,
         watcher: Watcher,
         area: &mut [u64],
-    ) -> io::Result<()> {
+    ) -> io::Result<()>
+        ensures { self.new.right ≤ self.old.right + 4 }
+    {
         for said in answers(watcher, area) {
-            self.hold(said, Err(wanted))?;
+            self.hold(said, wanted)?;
         }
         Ok(())
     }
