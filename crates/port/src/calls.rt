@@ -9,14 +9,6 @@ use crate::codes::{STATE_LENGTH, found_code, horizon_code, told_at, told_code, t
 use crate::layout::{STATE_BYTES, read_state, write_state};
 use watcher::state::{Refusal, Watcher, Word};
 
-// The state that bytes hold: none where they are not as many as a state has.
-#[tactic(auto, unfolding(crate::specs::Exports::wrong_state))]
-fn state_of(bytes: &[u8]) -> Option<Watcher>
-    ensures { result ≡ cond (wrong_state bytes.now) None (Some (state_in bytes.now)) }
-{
-    (bytes.len() == STATE_BYTES).then(|| read_state(bytes))
-}
-
 // Start a watcher.
 #[tactic(auto, unfolding(crate::specs::Exports::start_bytes, crate::specs::Exports::started_bytes, crate::specs::Exports::wrong_state))]
 pub fn hunchcold_start(rule: &[u8], signals: &[u8], bytes: &mut [u8], area: &mut [u64]) -> u8
@@ -32,14 +24,14 @@ pub fn hunchcold_start(rule: &[u8], signals: &[u8], bytes: &mut [u8], area: &mut
 }
 
 // Would this record be refused, and by which number.
-#[tactic(auto, unfolding(crate::specs::Exports::refusal_bytes))]
+#[tactic(auto, unfolding(crate::specs::Exports::refusal_bytes, crate::specs::Exports::wrong_state))]
 pub fn hunchcold_would_refuse(bytes: &[u8], piece: &[u8], area: &[u64]) -> u8
     ensures { WouldRefuseClause bytes.now piece.now area.now result }
 {
-    state_of(bytes).map_or(
-        STATE_LENGTH,
-        |state| found_code(state.would_refuse(piece, area)),
-    )
+    if bytes.len() != STATE_BYTES {
+        return STATE_LENGTH;
+    }
+    found_code(read_state(bytes).would_refuse(piece, area))
 }
 
 // The code of what is told; the next state is written unless that is a refusal.
@@ -60,19 +52,22 @@ pub fn hunchcold_feed(bytes: &mut [u8], piece: &[u8], area: &mut [u64]) -> u8
     ensures { FeedClause bytes.old piece.now area.old
         (result, bytes.new, area.new) }
 {
-    let Some(state) = state_of(bytes) else {
+    if bytes.len() != STATE_BYTES {
         return STATE_LENGTH;
-    };
-    let fed = state.feed(piece, area);
+    }
+    let fed = read_state(bytes).feed(piece, area);
     write_told(told_of(fed.answer), fed.next, bytes)
 }
 
 // How the log ends, were this the last record.
-#[tactic(auto, unfolding(crate::specs::Exports::ask_bytes, crate::specs::Codes::end_code))]
+#[tactic(auto, unfolding(crate::specs::Exports::ask_bytes, crate::specs::Codes::end_code, crate::specs::Exports::wrong_state))]
 pub fn hunchcold_ask(bytes: &[u8], area: &[u64]) -> u8
     ensures { AskClause bytes.now area.now (result, bytes.now, area.now) }
 {
-    state_of(bytes).map_or(STATE_LENGTH, |state| told_code(told_at(state.ask(area))))
+    if bytes.len() != STATE_BYTES {
+        return STATE_LENGTH;
+    }
+    told_code(told_at(read_state(bytes).ask(area)))
 }
 
 // Close the log.
@@ -80,17 +75,20 @@ pub fn hunchcold_ask(bytes: &[u8], area: &[u64]) -> u8
 pub fn hunchcold_close(bytes: &mut [u8], area: &mut [u64]) -> u8
     ensures { CloseClause bytes.old area.old (result, bytes.new, area.new) }
 {
-    let Some(state) = state_of(bytes) else {
+    if bytes.len() != STATE_BYTES {
         return STATE_LENGTH;
-    };
-    let ended = state.close(area);
+    }
+    let ended = read_state(bytes).close(area);
     write_told(told_at(ended.answer), ended.next, bytes)
 }
 
 // How long the rule can stay open, in minutes.
-#[tactic(auto, unfolding(crate::specs::Exports::horizon_bytes, watcher::specs::Numbers::horizon_for))]
+#[tactic(auto, unfolding(crate::specs::Exports::horizon_bytes, watcher::specs::Numbers::horizon_for, crate::specs::Exports::wrong_state))]
 pub fn hunchcold_horizon(bytes: &[u8]) -> u64
     ensures { HorizonClause bytes.now result }
 {
-    horizon_code(state_of(bytes).and_then(Watcher::horizon))
+    if bytes.len() != STATE_BYTES {
+        return horizon_code(None);
+    }
+    horizon_code(read_state(bytes).horizon())
 }
