@@ -19,24 +19,25 @@ fn next_row(step: &Step, forms: &[u64], k: usize) -> Row {
 
 /// Until's second part derived: left derived, and the parameter of the moved shift; false at the end.
 fn until_later(step: &Step, left: &Row, area: &[u64], scratch: usize) -> Row {
-    let Some(other) = step.neighbour else {
+    let record = step.record;
+    let shift = step
+        .neighbour
+        .and_then(|other| moved(record.low, record.high, step.shift, step.here.time, other));
+    let Some(shift) = shift else {
         return NO_TERMS;
     };
-    let shift = moved(step.record.low, step.record.high, step.shift, step.here.time, other);
-    let parameter = shift.map_or(NO_TERMS, |n| parameter(step.first + n, step.m));
     let kept = put_in(left, area, scratch, step.first);
-    and(&kept, &parameter)
+    and(&kept, &parameter(step.first + shift, step.m))
 }
 
 /// Until derived: right derived, if 0 is in the shifted interval, or its second part.
 fn until_row(step: &Step, left: &Row, right: &Row, area: &[u64], scratch: usize) -> Row {
-    let ends = if inside_now(step.record.low, step.shift) {
-        put_in(right, area, scratch, step.first)
-    } else {
-        NO_TERMS
-    };
     let later = until_later(step, left, area, scratch);
-    or(&ends, &later)
+    if inside_now(step.record.low, step.shift) {
+        or(&put_in(right, area, scratch, step.first), &later)
+    } else {
+        later
+    }
 }
 
 /// The derived row of a record's shift. The past rows stand first in the area, the derived rows in its scratch.

@@ -16,39 +16,42 @@ pub struct Held {
 
 /// Previous resolved: left with the derived rows put in, then the past rows; false at the first record.
 fn previous_row(step: &Step, left: &Row, area: &[u64], held: Held) -> Row {
-    let Some(other) = step.neighbour else {
-        return NO_TERMS;
-    };
-    let test = inside(step.record.low, step.record.high, step.here.time, other);
-    let derived = put_in(left, area, held.scratch, held.count);
-    if test {
-        put_in(&derived, area, 0, step.first)
-    } else {
-        NO_TERMS
+    let record = step.record;
+    match step.neighbour {
+        Some(other) if inside(record.low, record.high, step.here.time, other) => {
+            put_in(&put_in(left, area, held.scratch, held.count), area, 0, step.first)
+        }
+        _ => NO_TERMS,
     }
 }
 
 /// Since's second part resolved: left, and the derived row of the moved shift; false at the first record.
 fn since_earlier(step: &Step, left: &Row, area: &[u64], held: Held) -> Row {
-    let Some(other) = step.neighbour else {
+    let record = step.record;
+    let shift = step
+        .neighbour
+        .and_then(|other| moved(record.low, record.high, step.shift, step.here.time, other));
+    let Some(shift) = shift else {
         return NO_TERMS;
     };
-    let shift = moved(step.record.low, step.record.high, step.shift, step.here.time, other);
-    let derived = shift.map_or(&NO_TERMS, |n| row_of(area, held.scratch, held.count, step.first + n));
-    let before = put_in(derived, area, 0, step.first);
+    let before = put_in(
+        row_of(area, held.scratch, held.count, step.first + shift),
+        area,
+        0,
+        step.first,
+    );
     let kept = put_in(left, area, 0, step.first);
     and(&kept, &before)
 }
 
 /// Since resolved: right, if 0 is in the shifted interval, or its second part.
 fn since_row(step: &Step, left: &Row, right: &Row, area: &[u64], held: Held) -> Row {
-    let begins = if inside_now(step.record.low, step.shift) {
-        put_in(right, area, 0, step.first)
-    } else {
-        NO_TERMS
-    };
     let earlier = since_earlier(step, left, area, held);
-    or(&begins, &earlier)
+    if inside_now(step.record.low, step.shift) {
+        or(&put_in(right, area, 0, step.first), &earlier)
+    } else {
+        earlier
+    }
 }
 
 /// The past row of a record's shift.
