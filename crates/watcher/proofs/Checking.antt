@@ -48,14 +48,18 @@ none zero i = refl
 none (suc n) zero = refl
 none (suc n) (suc i) = none n i
 
--- and a byte that is no kind uses none
-pub uses_other : (byte i : ℕ) → uses 0 i ≡ uses (kind_number (Other byte)) i
+-- and that of a byte that is no kind uses none, as the row of no kind does
+pub uses_other : (byte i : ℕ) → get_or (replicate 8 false) i false ≡ uses (kind_number (Other byte)) i
 unfolding uses used_bytes kind_number
-uses_other byte i = go (leb byte 9) refl
+uses_other byte i = none 8 i ∙ sym (go (leb byte 9) refl)
   where
-    go : (b : Bool) → leb byte 9 ≡ b → uses 0 i ≡ uses (cond b 0 byte) i
-    go true e = refl
-    go false e = none 8 i ∙ sym (uses_no_kind byte i (leb-false byte 9 e))
+    go : (b : Bool) → leb byte 9 ≡ b → uses (cond b 0 byte) i ≡ false
+    go true e = none 8 i
+    go false e = uses_no_kind byte i (leb-false byte 9 e)
+
+pub uses_none : (byte i : ℕ) → uses 0 i ≡ uses (kind_number (Other byte)) i
+unfolding uses used_bytes
+uses_none byte i = uses_other byte i
 
 -- a kind that is of the nine, of none of them, or no signal
 pub kind_known : (kind : Kind) → ((byte : ℕ) → kind ≡ Other byte → ⊥)

@@ -20,7 +20,8 @@ use Rattle.watcher.specs.Rules.{records_of}
 use Rattle.watcher.specs.State.{rule_of, parameters_of, rule_bytes, list_bytes_of}
 use Rattle.watcher.specs.State.{start_refuses}
 use Rattle.watcher.proofs.Decoded.{Accepted, fine_tests, neither, length_fine}
-use Rattle.watcher.proofs.Decoded.{record_fine, byte_before, rule_in_before, accepted_laid, accepted_ordered, accepted_few}
+use Rattle.watcher.proofs.Decoded.{record_fine, byte_before}
+use Rattle.watcher.proofs.Decoded.{rule_in_before, accepted_laid, accepted_ordered, accepted_few}
 
 -- what is not refused is accepted
 not_refused : (f : Found) → is_err f ≡ false → f ≡ Ok tt

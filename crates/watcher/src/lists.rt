@@ -32,7 +32,7 @@ const USED: [[bool; Watcher::RECORD_BYTES]; KINDS] = [
 ];
 
 // The row of a kind in the table.
-#[tactic(auto, using(crate::proofs::Checking::uses_other), unfolding(rewriting::specs::Decode::kind_number))]
+#[tactic(auto, using(crate::proofs::Checking::uses_none), unfolding(rewriting::specs::Decode::kind_number))]
 fn used_row(kind: Kind) -> usize
     ensures inside { result < 10 }
     ensures same { (i : ℕ) → uses result i ≡ uses (kind_number kind) i }
