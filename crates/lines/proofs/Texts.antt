@@ -1,13 +1,15 @@
 -- Laws of text that is put into a buffer.
 -- Assumes nothing.
 use mathlib.Core.Path.{◌≡◌, refl, sym, ap, ap₂, ◌∙◌}
-use mathlib.Core.Bool.{cond}
+use mathlib.Core.Bool.{cond, not}
 use mathlib.Core.List.{List, [], ◌∷◌, ◌++◌}
 use Prim.Native.Nat.{ℕ, ◌+◌, min, ◌≤◌, ◌<◌}
 use native.Mathlib.Omega.{arith}
+use Rattle.std.proofs.Common.{Ok, Err, is_ok, is_err}
 use lib.ListN.{length, take, drop, set, length-append}
 use lib.Seq.{take-nil, drop-nil, append_snoc, set-append_seam}
 use borrow.Author.Tests.{lt-ltb, le-ltb}
+use Rattle.watcher.specs.Answers.{Found}
 use Rattle.lines.specs.declared.line.Line.{Line}
 use Rattle.lines.specs.Lines.{placed}
 use Rattle.lines.specs.inside.Puts.{put_byte, put_text, Puts}
@@ -73,3 +75,8 @@ unfolding placed
 line_placed {out = out} {text = text} same start p =
     p.behind ∙ ap₂ (λ n l. put_text (n, l) text) start same ∙ text_at [] out text
     ∙ ap (λ n. (n, take (length out) text ++ drop (length text) out)) (omega arith)
+
+-- a start is ready exactly where nothing is refused
+pub ready_if : (found : Found) → not (is_err found) ≡ is_ok found
+ready_if (Ok tt) = refl
+ready_if (Err r) = refl
