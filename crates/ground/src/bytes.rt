@@ -33,8 +33,7 @@ fn all_zeros(bytes: &[u8]) -> bool
     bytes.iter().all(|byte| *byte == 0)
 }
 
-// Whether every byte from `from` on is zero. A part of a slice begins at its place at once, where an iterator's `skip`
-// would go there byte by byte.
+// Whether every byte from `from` on is zero. It hands on the part from there, whose length a proof can follow.
 #[tactic(auto, using(std::proofs::lemmas::List::take_rest, crate::proofs::ByteLaws::zeros_past))]
 pub fn zeros_from(bytes: &[u8], from: usize) -> bool
     ensures { ZerosFromClause bytes.now from result }

@@ -17,7 +17,8 @@ use rewriting::step::{Interval, Record};
 // Kinds 0, which is none, to 9.
 const KINDS: usize = 10;
 
-// For each kind, which of the eight bytes are used: kind, left, right, zero, low, high, zero, zero.
+// For each kind, which of the eight bytes are used: kind, left, right, zero, low, high, zero, zero. It stays a table of
+// tables, and no match: document 01 asks for that form.
 const USED: [[bool; Watcher::RECORD_BYTES]; KINDS] = [
     [false, false, false, false, false, false, false, false],
     [true, false, false, false, false, false, false, false],
@@ -162,6 +163,7 @@ pub(crate) fn same_record(list: &[u8], size: usize, i: usize, j: usize) -> bool
 }
 
 // Where the first twins are: the lowest record that has an earlier twin, and the earliest; they end the search.
+// The loops stay nested, with a label: document 01 asks for that form.
 pub(crate) fn first_twins(list: &[u8], size: usize) -> Option<Place>
     requires { 0 < size }
     ensures { result ≡ first_twins size list.now }
